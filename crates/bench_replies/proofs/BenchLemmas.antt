@@ -3,7 +3,7 @@ use Rattle.std.specs.Prelude.{IfSome}
 use Rattle.std.proofs.Common.{◌≡◌, ◌∙◌, ℕ, false, true, List, [], ◌++◌, refl, sym, subst, ap, inl, inr, Option, Some, None, Ok, Err, Result}
 use Rattle.lp_model.specs.Program.{Program, Point}
 use Rattle.search_answers.specs.declared.answers.Answer.{Answer}
-use Rattle.search_answers.specs.declared.answers.Answer.TheVariants.{Optimal, Infeasible, Unbounded, Stopped, Memory}
+use Rattle.search_answers.specs.declared.answers.Answer.TheVariants.{Optimal, Within, Infeasible, Unbounded, Stopped, Memory}
 use Rattle.sound_searches.specs.Sound.{PlainSearch}
 use Rattle.tree_search.specs.Enough.{IsEnough}
 use Rattle.tree_search.specs.Solves.{Solved, SolvesFrom, HasRayFor, HasRayFrom}
@@ -19,6 +19,7 @@ use Rattle.bench_replies.specs.private.Telling.{WritesAll, WritesCert, WritesLin
 cert-told : (M : Program) (pivots : ℕ) (S : PlainSearch) (answer : Answer) (ray : Option Point) (old new : List ℕ) → HasRayFor M pivots answer ray → is_wanting answer ≡ false → WritesCert (Some S) (held_by answer ray) old new
     → (new ≡ old ++ cert_line (is_finished answer)) × IsCertified S answer
 cert-told M pivots S (Optimal v x n) ray old new has wanted h = h
+cert-told M pivots S (Within g v x n) ray old new has wanted h = h
 cert-told M pivots S (Infeasible n) ray old new has wanted h = h
 cert-told M pivots S (Unbounded n) (Some d) old new has wanted h = (h.0, (d, h.1.0, h.1.1))
 cert-told M pivots S (Unbounded n) None old new has wanted h = absurd (has tt)

@@ -1,10 +1,10 @@
 -- What `bench` prints.
 --     IsBenched seed rows cols nodes text       the text is the three lines of a solve of the seed's model from a fresh root
-use Rattle.std.specs.Prelude.{◌≡◌, ◌⊎◌, ℕ, Bool, true, false, if◌then◌else◌, List, [], ◌∷◌, ◌++◌, codes, decimal}
+use Rattle.std.specs.Prelude.{◌≡◌, ◌⊎◌, ℕ, Bool, true, false, if◌then◌else◌, List, [], ◌∷◌, ◌++◌, codes, decimal, None}
 use Rattle.command_words.specs.declared.options.SearchOptions.{SearchOptions}
 use Rattle.lp_model.specs.Program.{Program, Point}
 use Rattle.search_answers.specs.declared.answers.Answer.{Answer}
-use Rattle.search_answers.specs.declared.answers.Answer.TheVariants.{Optimal, Infeasible, Unbounded, Stopped, Memory}
+use Rattle.search_answers.specs.declared.answers.Answer.TheVariants.{Optimal, Within, Infeasible, Unbounded, Stopped, Memory}
 use Rattle.text_lines.specs.Lines.{HasNoNewline}
 use Rattle.sound_searches.specs.Sound.{PlainSearch}
 use Rattle.tree_search.specs.Enough.{IsEnough}
@@ -13,7 +13,7 @@ use Rattle.tree_search.specs.Truth.{IsTrueAnswer, HasEnded}
 use Rattle.tree_search.specs.declared.limits.Limits.{Limits}
 use Rattle.reply_texts.specs.Texts.{answer_text}
 use Rattle.search_replies.specs.Solve.{limits_of}
-use Rattle.cert_commands.specs.Certificates.{IsCertificateText, IsUnboundedText}
+use Rattle.cert_commands.specs.Certificates.{IsCertificateText, IsWithinText, IsUnboundedText}
 use Rattle.bench_models.specs.BenchModels.{bench_program}
 
 -- ---- the lines
@@ -28,6 +28,7 @@ IsFirstLine text line = (HasNoNewline text × (line ≡ text)) ⊎ ((front : Lis
 -- the search went to its end
 abbrev pub is_finished : Answer → Bool
 is_finished (Optimal v x n) = true
+is_finished (Within g v x n) = true
 is_finished (Infeasible n) = true
 is_finished (Unbounded n) = true
 is_finished (Stopped why n bound best) = false
@@ -41,6 +42,7 @@ cert_line accepted = if accepted then codes "cert accepted\n" else codes "cert n
 -- a finished answer has a certificate of the search, which is accepted for its model; and memory was not wanting
 abbrev pub IsCertified : PlainSearch → Answer → Type 0
 IsCertified S (Optimal v x n) = (text : List ℕ) × IsCertificateText S text
+IsCertified S (Within g v x n) = (text : List ℕ) × IsWithinText S g text
 IsCertified S (Infeasible n) = (text : List ℕ) × IsCertificateText S text
 IsCertified S (Unbounded n) = (ray : Point) × (text : List ℕ) × IsUnboundedText S ray text
 IsCertified S (Stopped why n bound best) = Unit {0}
@@ -48,7 +50,7 @@ IsCertified S Memory = ⊥
 
 -- so many results may be placed, and so many simplex steps made in each relaxation as 64 bits count; one worker makes the search
 abbrev pub bench_options : ℕ → SearchOptions
-bench_options nodes = record { nodes = nodes; pivots = 18446744073709551615; workers = 1; seed = 0 }
+bench_options nodes = record { nodes = nodes; pivots = 18446744073709551615; workers = 1; seed = 0; gap = None }
 
 abbrev pub bench_limits : ℕ → Limits
 bench_limits nodes = limits_of (bench_options nodes)

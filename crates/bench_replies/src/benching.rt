@@ -52,6 +52,7 @@ fn solve_bench(
         pivots: u64::MAX,
         workers: 1,
         seed: 0,
+        gap: None,
     };
     let answer = solve(alloc, env, &limits_of(options));
     let told = write_lines(alloc, text, env, rows, cols, &answer);

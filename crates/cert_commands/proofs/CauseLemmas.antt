@@ -4,7 +4,7 @@ use Rattle.std.specs.Prelude.{codes, IsSome}
 use Rattle.sound_searches.specs.Sound.{PlainSearch}
 use Rattle.kept_env.specs.Env.{model_of}
 use Rattle.kept_env.specs.declared.held.Held.{Held}
-use Rattle.kept_env.specs.declared.held.Held.TheVariants.{Nothing, Finished, Unbounded, Front, Infeasible}
+use Rattle.kept_env.specs.declared.held.Held.TheVariants.{Nothing, Finished, Within, Unbounded, Front, Infeasible}
 use Rattle.command_files.specs.Filing.{Writes, Written, TooLong, Failed, Wanting}
 use Rattle.reply_texts.specs.Texts.{memory_text}
 use Rattle.command_family.specs.Family.{HasCause, IsLawfulFamily}
@@ -48,6 +48,7 @@ module _ (old : ShellState) (reply : List ℕ) (new : ShellState) (file : List �
     | inr told ↦ wants told
   ]
   cert_cause (Some S) Finished present same w = writes_cause S Finished present same (λ none. let e : Finished ≡ Nothing = sym same ∙ none in cc) w
+  cert_cause (Some S) (Within g) present same w = writes_cause S (Within g) present same (λ none. let e : Within g ≡ Nothing = sym same ∙ none in cc) w
   cert_cause (Some S) (Unbounded ray) present same w = writes_cause S (Unbounded ray) present same (λ none. let e : Unbounded ray ≡ Nothing = sym same ∙ none in cc) w
   cert_cause (Some S) (Front cert) present same w = writes_cause S (Front cert) present same (λ none. let e : Front cert ≡ Nothing = sym same ∙ none in cc) w
   cert_cause (Some S) (Infeasible cert) present same w = writes_cause S (Infeasible cert) present same (λ none. let e : Infeasible cert ≡ Nothing = sym same ∙ none in cc) w

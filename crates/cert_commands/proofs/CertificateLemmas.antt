@@ -1,5 +1,6 @@
 -- The certificate of a search that went to its end, as bytes.
 use Rattle.std.proofs.Common.{◌≡◌, ℕ, ◌<◌, List, length, Some, None, Ok, Err, Result, sym, ap, subst, ◌∙◌, arith}
+use Rattle.frac128.specs.Rational.{ℚ}
 use Rattle.lp_model.specs.Program.{Program, Point}
 use Rattle.lp_model.specs.Lawful.{IsLawful}
 use Rattle.cert_text.specs.declared.cert.Claim.TheVariants.{Infeasible, Unbounded}
@@ -12,9 +13,9 @@ use Rattle.cert_check.specs.Verdict.{IsVerdict}
 use Rattle.cert_text.specs.Whole.{IsCertificate}
 use Rattle.cert_text.specs.declared.cert.Cert.{Cert}
 use Rattle.cert_check.specs.declared.verdict.Verdict.TheVariants.{Accepted}
-use Rattle.tree_cert.specs.Certificates.{IsCertificateOf, unbounded_certificate}
+use Rattle.tree_cert.specs.Certificates.{IsCertificateOf, IsCertificateWithin, unbounded_certificate}
 use Rattle.cert_writer.specs.CertText.{HasCertWords, cert_text}
-use Rattle.tree_cert.specs.Laws.{NamesLaw, UnboundedNamesLaw}
+use Rattle.tree_cert.specs.Laws.{NamesLaw, WithinNamesLaw, UnboundedNamesLaw}
 use Rattle.front_text.specs.Text.{MeantFront}
 use Rattle.front_text.specs.Whole.{IsFrontCertificate}
 use Rattle.front_text.specs.declared.front.FrontCert.{FrontCert}
@@ -24,7 +25,7 @@ use Rattle.front_check.specs.Accepted.{AcceptsFront}
 use Rattle.cert_check.specs.Accepted.{Accepts}
 use Rattle.accepted_names.specs.Laws.{AcceptedNamesLaw, FrontNamesLaw}
 use Rattle.kept_env.specs.Env.{IsFrontProved, IsEmptinessProved}
-use Rattle.cert_commands.specs.Certificates.{IsCertificateText, IsUnboundedTextBy, IsUnboundedText, IsFrontText, IsEmptinessText}
+use Rattle.cert_commands.specs.Certificates.{IsCertificateText, IsWithinText, IsUnboundedTextBy, IsUnboundedText, IsFrontText, IsEmptinessText}
 
 -- what was printed of a search's certificate
 pub certificate-text : {V E : Type 0} (items : V → List ℕ) (S : PlainSearch) (cert : Cert) (r : Result V E) → NamesLaw → VerdictLaw → AcceptedLaw → IsSound S
@@ -39,6 +40,20 @@ certificate-text items S cert (Ok text) names verdict accepted sound exact whole
   true_claim = accepted S.model cert (verdict S.model cert cert.claim whole is).1;
 }
 certificate-text items S cert (Err e) names verdict accepted sound exact whole is told states = tt
+
+-- what was printed of the certificate of a search within a gap
+pub within-text : {V E : Type 0} (items : V → List ℕ) (S : PlainSearch) (g : ℚ) (cert : Cert) (r : Result V E) → WithinNamesLaw → VerdictLaw → AcceptedLaw → IsSound S
+    → IsCertificateWithin S g cert → IsCertificate cert → IsVerdict S.model cert (Accepted cert.claim)
+    → IfOk r (λ text. items text ≡ cert_text cert) → IfOk r (λ text. IsCertificate cert → HasCertWords cert → MeantCertificate (items text) cert) → IfOk r (λ text. IsWithinText S g (items text))
+within-text items S g cert (Ok text) names verdict accepted sound exact whole is told states = record {
+  cert = cert;
+  exact = exact;
+  is = told;
+  stated = λ words. states whole (names S g cert sound exact words);
+  accepted = is;
+  true_claim = accepted S.model cert (verdict S.model cert cert.claim whole is).1;
+}
+within-text items S g cert (Err e) names verdict accepted sound exact whole is told states = tt
 
 -- what was printed of the certificate of a point and a ray
 pub unbounded-text : {V E : Type 0} (items : V → List ℕ) (M : Program) (x d : Point) (cert : Cert) (r : Result V E) → UnboundedNamesLaw → VerdictLaw → AcceptedLaw

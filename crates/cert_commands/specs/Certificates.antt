@@ -1,6 +1,7 @@
 -- What an environment's certificate is.
 use Rattle.std.specs.Prelude.{◌≡◌, ℕ, List, length, Vec, Option, Some, None, Result, Ok, Err}
 use Rattle.std.specs.declared.alloc.Global.{Global}
+use Rattle.frac128.specs.Rational.{ℚ}
 use Rattle.sound_searches.specs.Sound.{PlainSearch}
 use Rattle.cert_text.specs.Text.{MeantCertificate as States}
 use Rattle.cert_check.specs.Verdict.{IsVerdict}
@@ -10,7 +11,7 @@ use Rattle.cert_check.specs.declared.verdict.Verdict.TheVariants.{Accepted}
 use Rattle.lp_model.specs.Program.{Program, Point, IsEmpty}
 use Rattle.cert_text.specs.declared.cert.Claim.TheVariants as claim
 use Rattle.search_parts.specs.Points.{IsIncumbent}
-use Rattle.tree_cert.specs.Certificates.{IsCertificateOf, unbounded_certificate}
+use Rattle.tree_cert.specs.Certificates.{IsCertificateOf, IsCertificateWithin, unbounded_certificate}
 use Rattle.word_names.specs.WordNames.{HasWordNames}
 use Rattle.cert_writer.specs.CertText.{cert_text}
 use Rattle.frontier.specs.Outcomes.{IsFrontier, outcomes_in_own_sense}
@@ -21,7 +22,7 @@ use Rattle.front_check.specs.Accepted.{outcomes_of}
 use Rattle.front_check.specs.Verdict.{IsFrontVerdict}
 use Rattle.front_check.specs.declared.verdict.FrontVerdict.TheVariants as front
 use Rattle.kept_env.specs.declared.held.Held.{Held}
-use Rattle.kept_env.specs.declared.held.Held.TheVariants.{Nothing, Finished, Unbounded, Front, Infeasible}
+use Rattle.kept_env.specs.declared.held.Held.TheVariants.{Nothing, Finished, Within, Unbounded, Front, Infeasible}
 use Rattle.kept_env.specs.declared.env.EnvFault.{EnvFault}
 use Rattle.kept_env.specs.declared.env.EnvFault.TheVariants.{NoModel, NoAnswer, Memory}
 
@@ -30,6 +31,15 @@ use Rattle.kept_env.specs.declared.env.EnvFault.TheVariants.{NoModel, NoAnswer, 
 pub record IsCertificateText (S : PlainSearch) (text : List ℕ) : Type 0 where
   pub cert : Cert
   pub exact : IsCertificateOf S cert
+  pub is : text ≡ cert_text cert
+  pub stated : HasWordNames S.model → States text cert
+  pub accepted : IsVerdict S.model cert (Accepted cert.claim)
+  pub true_claim : IsTrueClaim S.model cert.claim
+
+-- The same of a search whose leaves are within this gap.
+pub record IsWithinText (S : PlainSearch) (g : ℚ) (text : List ℕ) : Type 0 where
+  pub cert : Cert
+  pub exact : IsCertificateWithin S g cert
   pub is : text ≡ cert_text cert
   pub stated : HasWordNames S.model → States text cert
   pub accepted : IsVerdict S.model cert (Accepted cert.claim)
@@ -71,6 +81,8 @@ IsCertAnswer None held result = result ≡ Err NoModel
 IsCertAnswer (Some S) Nothing result = result ≡ Err NoAnswer
 IsCertAnswer (Some S) Finished (Ok text) = IsCertificateText S text.items
 IsCertAnswer (Some S) Finished (Err fault) = fault ≡ Memory
+IsCertAnswer (Some S) (Within g) (Ok text) = IsWithinText S g text.items
+IsCertAnswer (Some S) (Within g) (Err fault) = fault ≡ Memory
 IsCertAnswer (Some S) (Unbounded ray) (Ok text) = IsUnboundedText S ray text.items
 IsCertAnswer (Some S) (Unbounded ray) (Err fault) = fault ≡ Memory
 IsCertAnswer (Some S) (Front cert) (Ok text) = IsFrontText S.model cert text.items

@@ -6,10 +6,11 @@ use Rattle.cert_text.specs.declared.cert.Cert.{Cert}
 use Rattle.front_text.specs.Text.{MeantFront}
 use Rattle.front_text.specs.declared.front.FrontCert.{FrontCert}
 use Rattle.tree_cert.specs.Certificates.{unbounded_certificate}
+use Rattle.frac128.specs.Rational.{ℚ}
 use Rattle.lp_model.specs.Program.{Program, Point}
-use Rattle.cert_commands.specs.Certificates.{IsCertificateText, IsUnboundedText, IsFrontText, IsEmptinessText}
+use Rattle.cert_commands.specs.Certificates.{IsCertificateText, IsWithinText, IsUnboundedText, IsFrontText, IsEmptinessText}
 use Rattle.kept_env.specs.declared.held.Held.{Held}
-use Rattle.kept_env.specs.declared.held.Held.TheVariants.{Nothing, Finished, Unbounded, Front, Infeasible}
+use Rattle.kept_env.specs.declared.held.Held.TheVariants.{Nothing, Finished, Within, Unbounded, Front, Infeasible}
 use Rattle.command_files.specs.Filing.{Writes}
 use Rattle.reply_texts.specs.Texts.{no_model_text, no_answer_text}
 use Rattle.command_family.specs.State.{ShellState}
@@ -19,6 +20,11 @@ use Rattle.command_family.specs.Unchanged.{IsTold}
 -- its claim is true.
 pub record IsReadCertificate (S : PlainSearch) (text : List ℕ) : Type 0 where
   pub is : IsCertificateText S text
+  pub stated : States text is.cert
+
+-- The same of a search within this gap.
+pub record IsReadWithin (S : PlainSearch) (g : ℚ) (text : List ℕ) : Type 0 where
+  pub is : IsWithinText S g text
   pub stated : States text is.cert
 
 -- The bytes are the text of the certificate that the model is unbounded, by a point that the search keeps and this ray. They read as that
@@ -43,6 +49,7 @@ pub record IsReadEmptiness (M : Program) (cert : Cert) (text : List ℕ) : Type 
 abbrev pub IsHeldText : PlainSearch → Held → List ℕ → Type 0
 IsHeldText S Nothing text = ⊥
 IsHeldText S Finished text = IsReadCertificate S text
+IsHeldText S (Within g) text = IsReadWithin S g text
 IsHeldText S (Unbounded ray) text = IsReadUnbounded S ray text
 IsHeldText S (Front cert) text = IsReadFront S.model cert text
 IsHeldText S (Infeasible cert) text = IsReadEmptiness S.model cert text
@@ -52,6 +59,7 @@ abbrev pub Certifies : Option PlainSearch → Held → ShellState → List ℕ �
 Certifies None held old name reply new = IsTold old no_model_text reply new
 Certifies (Some S) Nothing old name reply new = IsTold old no_answer_text reply new
 Certifies (Some S) Finished old name reply new = Writes (IsHeldText S Finished) name old.files old.faults reply new.files new.faults
+Certifies (Some S) (Within g) old name reply new = Writes (IsHeldText S (Within g)) name old.files old.faults reply new.files new.faults
 Certifies (Some S) (Unbounded ray) old name reply new = Writes (IsHeldText S (Unbounded ray)) name old.files old.faults reply new.files new.faults
 Certifies (Some S) (Front cert) old name reply new = Writes (IsHeldText S (Front cert)) name old.files old.faults reply new.files new.faults
 Certifies (Some S) (Infeasible cert) old name reply new = Writes (IsHeldText S (Infeasible cert)) name old.files old.faults reply new.files new.faults

@@ -1,22 +1,28 @@
 // The certificate of a search that went to its end, or that found a point beside a ray; and of what an environment holds.
-ghost use Rattle.std.specs.Prelude.{◌<◌, length, true, IfOk, Ok};
+ghost use Rattle.std.specs.Prelude.{◌<◌, length, true, pos, IfOk, Ok};
+ghost use Rattle.frac128.specs.Rational.{int, ◌≤ℚ◌};
+ghost use Rattle.search_gaps.specs.Within.{AreLeavesWithin};
 ghost use Rattle.model_points.specs.Answers.{IsFeasibilityAnswer};
 ghost use Rattle.model_points.specs.Rays.{IsRayJudged};
 ghost use Rattle.sound_searches.specs.Laws.{HasNoOpenLeaf};
 ghost use Rattle.kept_env.specs.Env.{IsFrontProved, IsEmptinessProved};
-ghost use Rattle.cert_commands.specs.Certificates.{IsCertificateText, IsUnboundedTextBy, IsUnboundedText, IsFrontText, IsEmptinessText, IsCertAnswer};
+ghost use Rattle.cert_commands.specs.Certificates.{IsCertificateText, IsWithinText, IsUnboundedTextBy, IsUnboundedText, IsFrontText, IsEmptinessText, IsCertAnswer};
 
 use accepted_names::{accepted_names_law, front_names_law};
 use cert_check::{accepted_law, verdict_law};
 use cert_text::Cert;
 use cert_writer::print_cert;
+use frac128::Frac;
 use front_check::{front_law, front_verdict_law};
 use front_text::FrontCert;
 use front_writer::print_front;
 use kept_env::{Env, EnvFault, Held};
 use lp_model::{Model, Point, show_model};
 use std::alloc::{AllocError, Global};
-use tree_cert::{certificate, names_law, unbounded_certificate, unbounded_names_law};
+use tree_cert::{
+    certificate, certificate_within, names_law, unbounded_certificate, unbounded_names_law,
+    within_names_law,
+};
 use tree_edit::Search;
 
 /// The text of the certificate of a search without an open leaf.
@@ -29,6 +35,25 @@ fn certificate_text(alloc: Global, search: &Search) -> Result<Vec<u8>, AllocErro
     verdict_law();
     accepted_law();
     let cert = match certificate(alloc, search) {
+        Ok(cert) => cert,
+        Err(AllocError) => return Err(AllocError),
+    };
+    let text = print_cert(alloc, &cert);
+    drop(cert);
+    text
+}
+
+/// The text of the certificate of a search whose leaves are all within this gap.
+fn within_text(alloc: Global, search: &Search, gap: &Frac) -> Result<Vec<u8>, AllocError>
+    requires gap { int (pos 0) ≤ℚ gap.now }
+    requires within { AreLeavesWithin search.now gap.now }
+    ensures { IfOk result (λ text. IsWithinText search.now gap.now text.items) }
+{
+    let _sound = search.points();
+    within_names_law();
+    verdict_law();
+    accepted_law();
+    let cert = match certificate_within(alloc, search, gap) {
         Ok(cert) => cert,
         Err(AllocError) => return Err(AllocError),
     };
@@ -110,6 +135,10 @@ pub fn held_certificate(alloc: Global, env: &Env) -> Result<Vec<u8>, EnvFault>
     match env.held() {
         Held::Nothing => Err(EnvFault::NoAnswer),
         Held::Finished => match certificate_text(alloc, search) {
+            Ok(text) => Ok(text),
+            Err(AllocError) => Err(EnvFault::Memory),
+        },
+        Held::Within(gap) => match within_text(alloc, search, gap) {
             Ok(text) => Ok(text),
             Err(AllocError) => Err(EnvFault::Memory),
         },

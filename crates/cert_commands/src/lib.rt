@@ -2,6 +2,7 @@
 //!
 //! ```text
 //! Finished       the tree of the search, with its multipliers and cuts, and the claim that they prove     (`certificate` of `tree_cert`)
+//! Within(G)      the same of a search with open leaves, each of which closes against the incumbent's value less G   (`certificate_within`)
 //! Unbounded(d)   the incumbent x of the search and the ray d: x + t d is feasible for each t >= 0         (`unbounded_certificate`)
 //! Front(c)       c: outcomes with their points, and a tree for each inner model                           (held as it is)
 //! Infeasible(c)  c: a tree that closes without a point                                                    (held as it is)

@@ -1,16 +1,20 @@
 -- The options of a search, word by word, and that some worker makes it.
-use Rattle.std.proofs.Common.{◌≡◌, ℕ, ◌-◌, ◌≤◌, ◌<◌, List, [], ◌∷◌, length, get_or, take, drop, arith, sym, refl, ◌∙◌, Bor, Bool, true, false, ◌&&◌, if◌then◌else◌, Option, Some, None}
-use Rattle.std.specs.Prelude.{map, codes, ◌==◌}
+use Rattle.std.proofs.Common.{◌≡◌, ℕ, ◌-◌, ◌≤◌, ◌<◌, List, [], ◌∷◌, length, get_or, take, drop, arith, sym, refl, ◌∙◌, Bor, Bool, true, false, ◌&&◌, if◌then◌else◌, Option, Some, None, subst}
+use Rattle.std.specs.Prelude.{map, codes, ◌==◌, pos, Result, Ok, Err}
 use Rattle.std.specs.Str.{bytes_eq}
 use Rattle.std.proofs.lemmas.Bool.Decides.{nat_tests}
 use Rattle.std.proofs.lemmas.Grind.{common_steps}
+use Rattle.frac128.specs.Rational.{ℚ, int, ◌≤ℚ◌, rational_le}
+use Rattle.frac128.proofs.Comparison.{rational_le-decides}
+use Rattle.frac_text.specs.declared.parsing.NumFault.{NumFault}
+use Rattle.frac_text.specs.Parsing.{spelled_number}
 use Rattle.command_words.specs.Names.{whole_number_of}
-use Rattle.command_words.specs.Options.{no_option, is_awaited, awaited_behind, are_options, if_positive, positive_number_of, option_number, with_option}
+use Rattle.command_words.specs.Options.{no_option, is_awaited, awaited_behind, are_options, if_positive, positive_number_of, option_number, if_gap, asked_gap, with_option, with_gap, if_with_gap, if_with_option, with_named_option}
 use Rattle.command_words.specs.declared.options.SearchOptions.{SearchOptions}
 use Rattle.command_words.specs.declared.options.Awaited.{Awaited}
 use Rattle.command_words.specs.declared.words.Beginning.{Beginning}
 use Rattle.command_words.specs.declared.words.Beginning.TheVariants as beginning
-use Rattle.command_words.specs.Asks.{Asks, Misused, NoNumber, with_number, options_asks, search_asks, begun_asks, IsAskable}
+use Rattle.command_words.specs.Asks.{Asks, Misused, NoNumber, with_options, options_asks, search_asks, begun_asks, IsGapAskable, IsAskable}
 
 abbrev pub nows : List (Bor (List ℕ)) → List (List ℕ)
 nows words = map (λ word. word.now) words
@@ -46,24 +50,24 @@ options_asks-few asks options (a ∷ []) h = refl
 options_asks-few asks options (a ∷ b ∷ more) h = absurd (omega arith)
 
 -- the number that stands first is none
-pub options_asks-none : (asks : SearchOptions → Asks) (options : SearchOptions) (words : List (Bor (List ℕ))) → 2 ≤ length words → option_number (get_or words 0 none_there).now (get_or words 1 none_there).now ≡ None
+pub options_asks-none : (asks : SearchOptions → Asks) (options : SearchOptions) (words : List (Bor (List ℕ))) → 2 ≤ length words → with_named_option (get_or words 0 none_there).now (get_or words 1 none_there).now options ≡ None
     → NoNumber (get_or words 1 none_there).now ≡ options_asks asks options (nows words)
 unfolding options_asks
 options_asks-none asks options [] h e = absurd (omega arith)
 options_asks-none asks options (a ∷ []) h e = absurd (omega arith)
-options_asks-none asks options (a ∷ b ∷ more) h e = (λ i. with_number b.now (sym e i) (λ n. options_asks asks (with_option a.now n options) (nows more)))
+options_asks-none asks options (a ∷ b ∷ more) h e = (λ i. with_options b.now (sym e i) (λ given. options_asks asks given (nows more)))
 
--- or it is this one
-pub options_asks-some : (asks : SearchOptions → Asks) (options : SearchOptions) (n : ℕ) (words : List (Bor (List ℕ))) → 2 ≤ length words → option_number (get_or words 0 none_there).now (get_or words 1 none_there).now ≡ Some n
-    → options_asks asks (with_option (get_or words 0 none_there).now n options) (nows (take (length words - 2) (drop 2 words))) ≡ options_asks asks options (nows words)
+-- or it gives these options
+pub options_asks-some : (asks : SearchOptions → Asks) (options given : SearchOptions) (words : List (Bor (List ℕ))) → 2 ≤ length words → with_named_option (get_or words 0 none_there).now (get_or words 1 none_there).now options ≡ Some given
+    → options_asks asks given (nows (take (length words - 2) (drop 2 words))) ≡ options_asks asks options (nows words)
 unfolding options_asks
-options_asks-some asks options n [] h e = absurd (omega arith)
-options_asks-some asks options n (a ∷ []) h e = absurd (omega arith)
-options_asks-some asks options n (a ∷ b ∷ more) h e =
-    (λ i. options_asks asks (with_option a.now n options) (nows (back-two a b more i)))
-    ∙ (λ i. with_number b.now (sym e i) (λ m. options_asks asks (with_option a.now m options) (nows more)))
+options_asks-some asks options given [] h e = absurd (omega arith)
+options_asks-some asks options given (a ∷ []) h e = absurd (omega arith)
+options_asks-some asks options given (a ∷ b ∷ more) h e =
+    (λ i. options_asks asks given (nows (back-two a b more i)))
+    ∙ (λ i. with_options b.now (sym e i) (λ o. options_asks asks o (nows more)))
 
--- ---- some worker makes the search
+-- ---- some worker makes the search, and a gap is at least 0
 
 positive : (o : Option ℕ) (n : ℕ) → if_positive o ≡ Some n → 1 ≤ n
 positive None n e = absurd (cc)
@@ -73,42 +77,71 @@ positive (Some k) n e = by (k == 0) refl e
     by true f e = absurd (cc)
     by false f e = let same : k ≡ n = cc in grind (arith, nat_tests)
 
+at_least_zero : (r : Result ℚ NumFault) (g : ℚ) → if_gap r ≡ Some g → int (pos 0) ≤ℚ g
+at_least_zero (Err fault) g e = absurd (cc)
+at_least_zero (Ok h) g e = by (rational_le (int (pos 0)) h) refl e
+  where
+    by : (b : Bool) → rational_le (int (pos 0)) h ≡ b → (if b then Some h else None) ≡ Some g → int (pos 0) ≤ℚ g
+    by true f e = let same : h ≡ g = cc in subst (λ k. int (pos 0) ≤ℚ k) same ((rational_le-decides (int (pos 0)) h).0 f)
+    by false f e = absurd (cc)
+
+-- what a search is asked by can be done
+abbrev AreAskable : SearchOptions → Type 0
+AreAskable options = (1 ≤ options.workers) × IsGapAskable options.gap
+
 abbrev chosen : (a b c : Bool) → ℕ → SearchOptions → SearchOptions
 chosen a b c n options =
-    if a then record { nodes = n; pivots = options.pivots; workers = options.workers; seed = options.seed }
-    else if b then record { nodes = options.nodes; pivots = n; workers = options.workers; seed = options.seed }
-    else if c then record { nodes = options.nodes; pivots = options.pivots; workers = n; seed = options.seed }
-    else record { nodes = options.nodes; pivots = options.pivots; workers = options.workers; seed = n }
+    if a then record { nodes = n; pivots = options.pivots; workers = options.workers; seed = options.seed; gap = options.gap }
+    else if b then record { nodes = options.nodes; pivots = n; workers = options.workers; seed = options.seed; gap = options.gap }
+    else if c then record { nodes = options.nodes; pivots = options.pivots; workers = n; seed = options.seed; gap = options.gap }
+    else record { nodes = options.nodes; pivots = options.pivots; workers = options.workers; seed = n; gap = options.gap }
 
-with-worker : (key word : List ℕ) (n : ℕ) (options : SearchOptions) → 1 ≤ options.workers → option_number key word ≡ Some n → 1 ≤ (with_option key n options).workers
-with-worker key word n options h e = by (bytes_eq key (codes "nodes")) (bytes_eq key (codes "pivots")) (bytes_eq key (codes "workers")) e
+numbered-askable : (key word : List ℕ) (n : ℕ) (options : SearchOptions) → AreAskable options → option_number key word ≡ Some n → AreAskable (with_option key n options)
+numbered-askable key word n options h e = by (bytes_eq key (codes "nodes")) (bytes_eq key (codes "pivots")) (bytes_eq key (codes "workers")) e
   where
-    by : (a b c : Bool) → (if c then positive_number_of word else whole_number_of word) ≡ Some n → 1 ≤ (chosen a b c n options).workers
+    by : (a b c : Bool) → (if c then positive_number_of word else whole_number_of word) ≡ Some n → AreAskable (chosen a b c n options)
     by true b c e = h
     by false true c e = h
-    by false false true e = positive (whole_number_of word) n e
+    by false false true e = (positive (whole_number_of word) n e, h.1)
     by false false false e = h
 
-begun-askable : (b : Beginning) (options : SearchOptions) → 1 ≤ options.workers → IsAskable (begun_asks b options)
+option-askable : (key word : List ℕ) (n : Option ℕ) (options given : SearchOptions) → AreAskable options → option_number key word ≡ n → if_with_option key n options ≡ Some given → AreAskable given
+option-askable key word None options given h is e = absurd (cc)
+option-askable key word (Some n) options given h is e = let same : with_option key n options ≡ given = cc in subst AreAskable same (numbered-askable key word n options h is)
+
+gap-askable : (word : List ℕ) (g : Option ℚ) (options given : SearchOptions) → AreAskable options → asked_gap word ≡ g → if_with_gap g options ≡ Some given → AreAskable given
+gap-askable word None options given h is e = absurd (cc)
+gap-askable word (Some g) options given h is e =
+    let same : with_gap g options ≡ given = cc in
+    subst AreAskable same (h.0, at_least_zero (spelled_number word) g is)
+
+named-askable : (key word : List ℕ) (options given : SearchOptions) → AreAskable options → with_named_option key word options ≡ Some given → AreAskable given
+named-askable key word options given h e = by (bytes_eq key (codes "gap")) e
+  where
+    by : (b : Bool) → (if b then if_with_gap (asked_gap word) options else if_with_option key (option_number key word) options) ≡ Some given → AreAskable given
+    by true e = gap-askable word (asked_gap word) options given h refl e
+    by false e = option-askable key word (option_number key word) options given h refl e
+
+begun-askable : (b : Beginning) (options : SearchOptions) → AreAskable options → IsAskable (begun_asks b options)
 begun-askable beginning.Anew options h = h
 begun-askable beginning.Kept options h = h
 begun-askable beginning.Parts options h = tt
 
-numbered : (word : List ℕ) (n : Option ℕ) (asks : ℕ → Asks) → ((k : ℕ) → n ≡ Some k → IsAskable (asks k)) → IsAskable (with_number word n asks)
-numbered word None asks h = tt
-numbered word (Some n) asks h = h n refl
+given-askable : (word : List ℕ) (given : Option SearchOptions) (asks : SearchOptions → Asks) → ((o : SearchOptions) → given ≡ Some o → IsAskable (asks o)) → IsAskable (with_options word given asks)
+given-askable word None asks h = tt
+given-askable word (Some o) asks h = h o refl
 
-options-askable : (b : Beginning) (options : SearchOptions) (words : List (List ℕ)) → 1 ≤ options.workers → IsAskable (options_asks (begun_asks b) options words)
+options-askable : (b : Beginning) (options : SearchOptions) (words : List (List ℕ)) → AreAskable options → IsAskable (options_asks (begun_asks b) options words)
 unfolding options_asks
 options-askable b options [] h = begun-askable b options h
 options-askable b options (key ∷ []) h = begun-askable b options h
 options-askable b options (key ∷ number ∷ more) h =
-    numbered number (option_number key number) (λ n. options_asks (begun_asks b) (with_option key n options) more)
-    (λ n e. options-askable b (with_option key n options) more (with-worker key number n options h e))
+    given-askable number (with_named_option key number options) (λ o. options_asks (begun_asks b) o more)
+    (λ o e. options-askable b o more (named-askable key number options o h e))
 
 pub search-askable : (awaited : Awaited) (b : Beginning) (arguments : List (List ℕ)) → IsAskable (search_asks awaited (begun_asks b) arguments)
 search-askable awaited b arguments = by (are_options awaited arguments)
   where
     by : (fits : Bool) → IsAskable (if fits then options_asks (begun_asks b) no_option arguments else Misused)
-    by true = options-askable b no_option arguments (omega arith)
+    by true = options-askable b no_option arguments (omega arith, tt)
     by false = tt

@@ -1,8 +1,9 @@
 -- What the words of a line ask for: a command with what it is given, or which fault they have.
-use Rattle.std.specs.Prelude.{◌≡◌, true, ℕ, ◌≤◌, ◌&&◌, List, [], ◌∷◌, map, codes, if◌then◌else◌, Option, Some, None}
+use Rattle.std.specs.Prelude.{◌≡◌, true, ℕ, ◌≤◌, ◌&&◌, List, [], ◌∷◌, map, codes, pos, if◌then◌else◌, Option, Some, None}
+use Rattle.frac128.specs.Rational.{ℚ, int, ◌≤ℚ◌}
 use Rattle.std.specs.Str.{bytes_eq}
 use Rattle.command_words.specs.Names.{command_of, is_file_name, whole_number_of}
-use Rattle.command_words.specs.Options.{no_option, any_option, any_limit, are_options, option_number, with_option}
+use Rattle.command_words.specs.Options.{no_option, any_option, any_limit, are_options, with_named_option}
 use Rattle.command_words.specs.declared.options.SearchOptions.{SearchOptions}
 use Rattle.command_words.specs.declared.options.Awaited.{Awaited}
 use Rattle.command_words.specs.declared.words.OptimumBound.{OptimumBound}
@@ -62,11 +63,16 @@ load_asks arguments = Misused
 
 -- ---- searches, by what is asked with the options
 
+-- what is asked with the options that a word gives
+abbrev pub with_options : List ℕ → Option SearchOptions → (SearchOptions → Asks) → Asks
+with_options word None asks = NoNumber word
+with_options word (Some options) asks = asks options
+
 -- with these options and those of the words, of which the word that stands first is looked at first
 unfoldable pub options_asks : (SearchOptions → Asks) → SearchOptions → List (List ℕ) → Asks
 options_asks asks options [] = asks options
 options_asks asks options (key ∷ []) = asks options
-options_asks asks options (key ∷ number ∷ more) = with_number number (option_number key number) (λ n. options_asks asks (with_option key n options) more)
+options_asks asks options (key ∷ number ∷ more) = with_options number (with_named_option key number options) (λ given. options_asks asks given more)
 
 -- those of these options that are named, in any order, each once at most; what isn't named is without a limit, and by one worker
 abbrev pub search_asks : Awaited → (SearchOptions → Asks) → List (List ℕ) → Asks
@@ -173,11 +179,16 @@ asks_shown (asked.Unknown word) = Unknown word.now
 asks_shown asked.Misused = Misused
 asks_shown (asked.NoNumber word) = NoNumber word.now
 
--- the file that is asked for has a file name, and a search some worker
+-- a gap, if one is named, is at least 0
+abbrev pub IsGapAskable : Option ℚ → Type 0
+IsGapAskable None = Unit {0}
+IsGapAskable (Some g) = int (pos 0) ≤ℚ g
+
+-- the file that is asked for has a file name, and a search some worker and a gap that is at least 0
 abbrev pub IsAskable : Asks → Type 0
 IsAskable (Load file intupper) = is_file_name file ≡ true
-IsAskable (Solve options) = 1 ≤ options.workers
-IsAskable (Warm options) = 1 ≤ options.workers
+IsAskable (Solve options) = (1 ≤ options.workers) × IsGapAskable options.gap
+IsAskable (Warm options) = (1 ≤ options.workers) × IsGapAskable options.gap
 IsAskable (McSolve nodes pivots) = Unit {0}
 IsAskable (Edit words) = Unit {0}
 IsAskable (Trim depth) = Unit {0}

@@ -8,6 +8,7 @@
 //! solve                  a search without a limit
 //! solve nodes N          a search that may place N results
 //! solve pivots N         one that may make N simplex steps in each relaxation
+//! solve gap G            one that may end where no point is better than the best one found by more than G
 //! solve workers K seed S one that K workers share, whose turn it is being said by the words of the seed S
 //!                        these options may stand together, in any order
 //! warm                   the search that is kept goes on, with the same options
@@ -27,12 +28,13 @@
 //! ```
 //!
 //! F is a file name: 1 to 255 letters, digits, `.`, `_` and `-`, not beginning with `.` or `-`. N, D, K and S are whole numbers
-//! of 64 bits, in decimal digits without a sign or a leading zero; K isn't 0. Words are compared byte for byte.
+//! of 64 bits, in decimal digits without a sign or a leading zero; K isn't 0. G is a number of at least 0, as `frac_text` reads it. Words
+//! are compared byte for byte.
 //!
 //! Contract in one sentence: `read_words` answers exactly what the words ask for, or the first of their faults: no command,
 //! none of its forms, no number where a number stands.
 //!
-//! Below stand the comparison of words (`text_lines`) and `itoa`; above stands `sym_shell`, which answers what is asked.
+//! Below stand the comparison of words (`text_lines`), numbers (`frac128`, `frac_text`) and `itoa`; above stands `sym_shell`, which answers what is asked.
 #![tactic(auto)]
 
 mod options;

@@ -127,7 +127,7 @@ pub enum Asked<'a> {
     },
     /// The words have none of the command's forms.
     Misused,
-    /// This word stands in a number's place and is no whole number of 64 bits.
+    /// This word stands in a number's place and is no whole number of 64 bits; where it is a gap's, no number of at least 0.
     NoNumber {
         word: &'a [u8],
     },

@@ -58,6 +58,15 @@ pub fn push_answer(got: &mut String, model: &Model, answer: &Answer) -> Result<(
             write!(got, "optimal {value} nodes {results} at")?;
             push_point(got, model, point)?;
         }
+        Answer::Within {
+            gap,
+            value,
+            point,
+            results,
+        } => {
+            write!(got, "within {gap} {value} nodes {results} at")?;
+            push_point(got, model, point)?;
+        }
         Answer::Infeasible { results } => write!(got, "infeasible nodes {results}")?,
         Answer::Unbounded { results } => write!(got, "unbounded nodes {results}")?,
         Answer::Stopped {

@@ -1,5 +1,6 @@
 // The environment of a row, and what its calls are answered.
 ghost use Rattle.std.specs.Prelude.{◌≤◌, IfOk};
+ghost use Rattle.tree_search.specs.Within.{IsGapLimit};
 
 use crate::answers::push_answer;
 use anyhow::{Result, bail};
@@ -26,7 +27,8 @@ pub struct Environment {
 
 /// The limits that the words name; one that isn't named is the greatest. One worker makes the search.
 fn limits_in(words: &mut Words) -> Result<Limits>
-    ensures { IfOk result (λ limits. 1 ≤ limits.workers) }
+    ensures workers { IfOk result (λ limits. 1 ≤ limits.workers) }
+    ensures gap { IfOk result (λ limits. IsGapLimit limits.gap) }
 {
     let mut nodes = u64::MAX;
     let mut pivots = u64::MAX;
@@ -51,6 +53,7 @@ fn limits_in(words: &mut Words) -> Result<Limits>
         tree,
         workers: 1,
         seed: 0,
+        gap: None,
     })
 }
 
@@ -88,7 +91,8 @@ fn push_fault(got: &mut String, fault: &EnvFault) -> Result<()> {
 
 /// The limits that a line says.
 fn limits_of(alloc: Global, line: &str) -> Result<Limits>
-    ensures { IfOk result (λ limits. 1 ≤ limits.workers) }
+    ensures workers { IfOk result (λ limits. 1 ≤ limits.workers) }
+    ensures gap { IfOk result (λ limits. IsGapLimit limits.gap) }
 {
     let mut words = Words::new(alloc, line)?;
     limits_in(&mut words)

@@ -15,7 +15,7 @@ use Rattle.front_search.specs.Completeness.{counted_results, HasFrontEnded, IsFr
 
 -- how far a search for a front goes: so many results in all parts together, and so many simplex steps in each relaxation, by one worker
 abbrev pub front_limits : ℕ → ℕ → Limits
-front_limits nodes pivots = record { nodes = nodes; pivots = pivots; tree = node_limit; workers = 1; seed = 0 }
+front_limits nodes pivots = record { nodes = nodes; pivots = pivots; tree = node_limit; workers = 1; seed = 0; gap = None }
 
 -- what is known where the front of an environment's model was looked for: what was found, and that it is the end, where there was enough of all
 pub record IsLookedFor (l : Limits) (old : PlainEnv) (result : Result FrontAnswer EnvFault) (new : PlainEnv) : Type 0 where

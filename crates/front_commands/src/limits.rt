@@ -15,5 +15,6 @@ pub fn front_limits(nodes: u64, pivots: u64) -> Limits
         tree: NODE_LIMIT,
         workers: 1,
         seed: 0,
+        gap: None,
     }
 }

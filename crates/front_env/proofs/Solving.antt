@@ -1,11 +1,11 @@
 -- What a solve leaves.
-use Rattle.std.proofs.Common.{◌≡◌, ℕ, ◌≤◌, refl, sym, ap, subst, arith, inl, inr}
+use Rattle.std.proofs.Common.{◌≡◌, ℕ, ◌≤◌, refl, sym, ap, subst, ◌∙◌, arith, inl, inr}
 use Rattle.std.specs.Prelude.{Option, Some, None, Ok, Err, IsSome, IfSome}
 use Rattle.lp_model.specs.Program.{Program, Point}
 use Rattle.lp_model.specs.declared.answers.StopWhy.{StopWhy}
 use Rattle.lp_model.specs.declared.answers.StopWhy.TheVariants.{Nodes, Tree, Pivots, Wide}
 use Rattle.search_answers.specs.declared.answers.Answer.{Answer}
-use Rattle.search_answers.specs.declared.answers.Answer.TheVariants.{Optimal, Infeasible, Unbounded, Stopped, Memory}
+use Rattle.search_answers.specs.declared.answers.Answer.TheVariants.{Optimal, Within, Infeasible, Unbounded, Stopped, Memory}
 use Rattle.sound_searches.specs.Sound.{PlainSearch, IsSound}
 use Rattle.kept_env.specs.Env.{PlainEnv, with_answer, pool_in}
 use Rattle.kept_env.specs.declared.env.EnvFault.{EnvFault}
@@ -31,16 +31,18 @@ early_within Small M l (Pivots place) n h = h.0
 early_within Small M l (Wide at) n h = h.0
 
 -- an optimum is a kept point, so that its test has room
-true_within : (Small : Type 0) (S : PlainSearch) (l : Limits) (answer : Answer) → IsSound S → IsOldest S answer → IsTrueBy Small S.model l answer → IsTrueOf S.model l.nodes answer
-true_within Small S l (Optimal v x n) sound oldest h = ((h.0.0, h.0.1, (incumbent-keepable S x oldest.0 sound oldest.1).feasible), h.1.within_limit)
-true_within Small S l (Infeasible n) sound oldest h = (h.0, h.1.within_limit)
-true_within Small S l (Unbounded n) sound oldest h = (h.0, h.1.within_limit)
-true_within Small S l (Stopped why n bound best) sound oldest h = (h.0, early_within Small S.model l why n h.1)
-true_within Small S l Memory sound oldest h = tt
+true_within : (Small : Type 0) (S : PlainSearch) (l : Limits) → l.gap ≡ None → (answer : Answer) → IsSound S → IsOldest S answer → IsTrueBy Small S.model l answer → IsTrueOf S.model l.nodes answer
+true_within Small S l plain (Optimal v x n) sound oldest h = ((h.0.0, h.0.1, (incumbent-keepable S x oldest.0 sound oldest.1).feasible), h.1.within_limit)
+true_within Small S l plain (Within g v x n) sound oldest h = let e : None ≡ Some g = sym plain ∙ h.0.0 in absurd cc
+true_within Small S l plain (Infeasible n) sound oldest h = (h.0, h.1.within_limit)
+true_within Small S l plain (Unbounded n) sound oldest h = (h.0, h.1.within_limit)
+true_within Small S l plain (Stopped why n bound best) sound oldest h = (h.0, early_within Small S.model l why n h.1)
+true_within Small S l plain Memory sound oldest h = tt
 
 -- what is shown is true of the search's model, and its tree proves it
 proved : (Small : Type 0) (l : Limits) (answer : Answer) (S : PlainSearch) (direction : Option Point) → IsTrueBy Small S.model l answer → IsProvedIn (with_answer S (held_by answer direction)) (shown_claim answer)
 proved Small l (Optimal v x n) S direction h = record { held = refl; true_claim = (x, (h.0.0, sym h.0.1)); exact = tt }
+proved Small l (Within g v x n) S direction h = tt
 proved Small l (Infeasible n) S direction h = record { held = refl; true_claim = h.0; exact = tt }
 proved Small l (Unbounded n) S direction h = tt
 proved Small l (Stopped why n bound best) S direction h = tt
@@ -56,6 +58,7 @@ stopped_by l M old S answer found enough stop =
   where
     not_ended : (a : Answer) → IsStop a → HasEnded a → ⊥
     not_ended (Optimal v x n) s h = s
+    not_ended (Within g v x n) s h = s
     not_ended (Infeasible n) s h = s
     not_ended (Unbounded n) s h = s
     not_ended (Stopped why n bound best) s h = h
@@ -79,17 +82,17 @@ pub record IsSolvedTo (l : Limits) (M : Program) (answer : Answer) (new : PlainE
   pub shown : IsProvedIn new (shown_claim answer)
   pub stopped : IsStop answer → IsStopBy l M answer
 
-pub solved_to : (l : Limits) (search : Option PlainSearch) (old new : PlainEnv) (answer : Answer) → IsSome search → WorksEnv (SolvesFrom l) (HasRayFrom l) search old (Ok answer) new → IfSome search (λ S. IsTrueAnswer S.model l answer) →
+pub solved_to : (l : Limits) → l.gap ≡ None → (search : Option PlainSearch) (old new : PlainEnv) (answer : Answer) → IsSome search → WorksEnv (SolvesFrom l) (HasRayFrom l) search old (Ok answer) new → IfSome search (λ S. IsTrueAnswer S.model l answer) →
     IfSome search (λ S. IsEnough S.model (pool_in new.search) l → HasEnded answer) → IfSome new.search IsSound → IsSolvedTo l (program_in search) answer new
-solved_to l None old new answer some works is enough sound = absurd cc
-solved_to l (Some S) old new answer some works is enough sound =
+solved_to l plain None old new answer some works is enough sound = absurd cc
+solved_to l plain (Some S) old new answer some works is enough sound =
     let after = works.search in
     let model = same_model l S after answer works.found in
     let truth : IsTrueAnswer after.model l answer = subst (λ (P : Program). IsTrueAnswer P l answer) (sym model) is in
     subst (IsSolvedTo l S.model answer) (sym works.env_is) (record {
       loaded = refl;
       program = model;
-      true_of = true_within _ after l answer (subst (λ (e : PlainEnv). IfSome e.search IsSound) works.env_is sound) works.oldest truth;
+      true_of = true_within _ after l plain answer (subst (λ (e : PlainEnv). IfSome e.search IsSound) works.env_is sound) works.oldest truth;
       shown = proved _ l answer after works.direction truth;
       stopped = stopped_by l S.model S after answer works.found (subst (λ (e : PlainEnv). IsEnough S.model (pool_in e.search) l → HasEnded answer) works.env_is enough);
     })
@@ -101,10 +104,10 @@ pub record IsWarmedTo (l : Limits) (M : Program) (answer : Answer) (new : PlainE
   pub true_of : IsTrueOf M l.nodes answer
   pub shown : IsProvedIn new (shown_claim answer)
 
-pub warmed_to : (l : Limits) (search : Option PlainSearch) (old new : PlainEnv) (answer : Answer) → IsSome search → WorksEnv (WarmsFrom l) (HasRayFrom l) search old (Ok answer) new → IfSome search (λ S. IsTrueOfKept S l answer) →
+pub warmed_to : (l : Limits) → l.gap ≡ None → (search : Option PlainSearch) (old new : PlainEnv) (answer : Answer) → IsSome search → WorksEnv (WarmsFrom l) (HasRayFrom l) search old (Ok answer) new → IfSome search (λ S. IsTrueOfKept S l answer) →
     IfSome new.search IsSound → IsWarmedTo l (program_in search) answer new
-warmed_to l None old new answer some works is sound = absurd cc
-warmed_to l (Some S) old new answer some works is sound =
+warmed_to l plain None old new answer some works is sound = absurd cc
+warmed_to l plain (Some S) old new answer some works is sound =
     let after = works.search in
     let model = works.found.model in
     let truth : IsTrueBy (IsTooSmall S l) after.model l answer = subst (λ (P : Program). IsTrueBy (IsTooSmall S l) P l answer) (sym model) is in
@@ -112,7 +115,7 @@ warmed_to l (Some S) old new answer some works is sound =
     subst (IsWarmedTo l S.model answer) (sym works.env_is) (record {
       loaded = refl;
       program = model;
-      true_of = subst (λ (P : Program). IsTrueOf P l.nodes answer) model (true_within _ after l answer own works.oldest truth);
+      true_of = subst (λ (P : Program). IsTrueOf P l.nodes answer) model (true_within _ after l plain answer own works.oldest truth);
       shown = proved _ l answer after works.direction truth;
     })
 
@@ -124,6 +127,7 @@ gone_to l M env answer (gone.Stopped results) h by = few answer h.true_of by
   where
     few : (a : Answer) → IsTrueOf M l.nodes a → StopsAfter results a → results ≤ l.nodes
     few (Optimal v x n) is stops = absurd stops
+    few (Within g v x n) is stops = absurd stops
     few (Infeasible n) is stops = absurd stops
     few (Unbounded n) is stops = absurd stops
     few (Stopped why n bound best) is stops = let within = is.1 in omega (arith, within, stops)

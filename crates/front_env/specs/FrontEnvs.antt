@@ -6,7 +6,7 @@ use Rattle.std.specs.Coded.{Coded, code_by, coded×, coded_option}
 use Rattle.lp_model.specs.Program.{Program}
 use Rattle.lp_model.specs.declared.types.Sense.TheVariants.{Min}
 use Rattle.search_answers.specs.declared.answers.Answer.{Answer}
-use Rattle.search_answers.specs.declared.answers.Answer.TheVariants.{Optimal, Infeasible, Unbounded, Stopped, Memory}
+use Rattle.search_answers.specs.declared.answers.Answer.TheVariants.{Optimal, Within, Infeasible, Unbounded, Stopped, Memory}
 use Rattle.sound_searches.specs.Sound.{PlainSearch}
 use Rattle.kept_env.specs.Env.{PlainEnv, env_code}
 use Rattle.kept_env.specs.declared.held.Held.TheVariants.{Finished}
@@ -64,9 +64,9 @@ pub record IsFrontEnv (e : PlainFrontEnv) : Type 0 where
 
 -- ---- stops
 
--- these limits with at most n results
+-- these limits with at most n results, and no gap
 abbrev pub with_results : Limits → ℕ → Limits
-with_results l n = record { nodes = n; pivots = l.pivots; tree = l.tree; workers = l.workers; seed = l.seed }
+with_results l n = record { nodes = n; pivots = l.pivots; tree = l.tree; workers = l.workers; seed = l.seed; gap = None }
 
 -- A search of M by these limits, from a fresh root on, answers so, by its cause over that search, its pool and the limits; and the limits
 -- were not enough for it to go to its end.
@@ -78,6 +78,7 @@ pub record IsStopBy (l : Limits) (M : Program) (answer : Answer) : Type 0 where
 -- the answer, where so many results were placed before
 abbrev pub behind : ℕ → Answer → Answer
 behind before (Optimal v x n) = Optimal v x (before + n)
+behind before (Within g v x n) = Within g v x (before + n)
 behind before (Infeasible n) = Infeasible (before + n)
 behind before (Unbounded n) = Unbounded (before + n)
 behind before (Stopped why n bound best) = Stopped why (before + n) bound best

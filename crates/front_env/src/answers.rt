@@ -15,11 +15,14 @@ pub(crate) fn shown_claim(answer: &Answer) -> Option<Claim>
     match answer {
         Answer::Optimal { value, .. } => Some(Claim::Optimal(*value)),
         Answer::Infeasible { .. } => Some(Claim::Infeasible),
-        Answer::Unbounded { .. } | Answer::Stopped { .. } | Answer::Memory => None,
+        Answer::Within { .. }
+        | Answer::Unbounded { .. }
+        | Answer::Stopped { .. }
+        | Answer::Memory => None,
     }
 }
 
-/// These limits with as many results.
+/// These limits with as many results, and no gap.
 pub(crate) fn with_results(limits: &Limits, nodes: u64) -> Limits
     ensures { result ≡ with_results limits.now nodes }
 {
@@ -36,6 +39,7 @@ pub(crate) fn with_results(limits: &Limits, nodes: u64) -> Limits
         tree,
         workers,
         seed,
+        gap: None,
     }
 }
 
@@ -50,6 +54,17 @@ pub(crate) fn behind(before: u64, answer: Answer) -> Answer
             point,
             results,
         } => Answer::Optimal {
+            value,
+            point,
+            results: before + results,
+        },
+        Answer::Within {
+            gap,
+            value,
+            point,
+            results,
+        } => Answer::Within {
+            gap,
             value,
             point,
             results: before + results,

@@ -1,5 +1,5 @@
 // A model solved: first by going on with a kept search, and where that stops from a fresh root.
-ghost use Rattle.std.specs.Prelude.{◌≡◌, ◌≤◌, IsSome, IfSome};
+ghost use Rattle.std.specs.Prelude.{◌≡◌, ◌≤◌, None, IsSome, IfSome};
 ghost use Rattle.front_solver.specs.Truth.{IsTrueOf, IsStop, shown_claim};
 ghost use Rattle.front_env.specs.FrontEnvs.{program_in, IsProvedIn, IsStopBy};
 ghost use Rattle.front_env.specs.private.Going.{IsGoneBy, IsGoneOn};
@@ -56,6 +56,17 @@ fn gone_on(answer: Answer) -> GoneOn
             point,
             results,
         }),
+        Answer::Within {
+            gap,
+            value,
+            point,
+            results,
+        } => GoneOn::Ended(Answer::Within {
+            gap,
+            value,
+            point,
+            results,
+        }),
         Answer::Infeasible { results } => GoneOn::Ended(Answer::Infeasible { results }),
         Answer::Unbounded { results } => GoneOn::Ended(Answer::Unbounded { results }),
         Answer::Stopped {
@@ -80,6 +91,7 @@ pub(crate) fn go_on(
 ) -> GoneOn
     requires loaded { IsSome env.old.search }
     requires workers { 1 ≤ limits.now.workers }
+    requires plain { limits.now.gap ≡ None }
     ensures loaded { IsSome env.new.search }
     ensures program { program_in env.new.search ≡ program_in env.old.search }
     ensures end { IsGoneOn limits.now (program_in env.old.search) env.new result }
@@ -101,6 +113,7 @@ pub(crate) fn go_on(
 pub(crate) fn solved_anew(alloc: Global, env: &mut Env, limits: &Limits) -> Answer
     requires loaded { IsSome env.old.search }
     requires workers { 1 ≤ limits.now.workers }
+    requires plain { limits.now.gap ≡ None }
     ensures loaded { IsSome env.new.search }
     ensures program { program_in env.new.search ≡ program_in env.old.search }
     ensures true_of { IsTrueOf (program_in env.old.search) limits.now.nodes result }

@@ -234,7 +234,10 @@ fn shown_claim(answer: &Answer) -> Option<Claim>
     match answer {
         Answer::Optimal { value, .. } => Some(Claim::Optimal(*value)),
         Answer::Infeasible { .. } => Some(Claim::Infeasible),
-        Answer::Unbounded { .. } | Answer::Stopped { .. } | Answer::Memory => None,
+        Answer::Within { .. }
+        | Answer::Unbounded { .. }
+        | Answer::Stopped { .. }
+        | Answer::Memory => None,
     }
 }
 

@@ -126,6 +126,7 @@ stops-behind l P nodes results why bound best h = by h.stopped.rest h.stopped.is
 
     by : (rest : Answer) → solve.Stopped why h.here bound best ≡ behind more rest → IsStopBy (with_results l (nodes - h.before - more)) P rest → StopsAtPart (stops_by l) P nodes results (λ here. solve.Stopped why here bound best)
     by (solve.Optimal v x n) e stop = absurd cc
+    by (solve.Within g v x n) e stop = absurd cc
     by (solve.Infeasible n) e stop = absurd cc
     by (solve.Unbounded n) e stop = absurd cc
     by (solve.Stopped same here b t) e stop =

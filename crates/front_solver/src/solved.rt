@@ -38,6 +38,7 @@ fn has_claim(answer: &Answer) -> bool
     match answer {
         Answer::Optimal { .. } => true,
         Answer::Infeasible { .. } => true,
+        Answer::Within { .. } => false,
         Answer::Unbounded { .. } => false,
         Answer::Stopped { .. } => false,
         Answer::Memory => false,

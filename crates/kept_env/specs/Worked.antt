@@ -5,7 +5,7 @@
 use Rattle.std.specs.Prelude.{◌≡◌, Option, Some, None, Result, Ok, Err}
 use Rattle.lp_model.specs.Program.{Point}
 use Rattle.search_answers.specs.declared.answers.Answer.{Answer}
-use Rattle.search_answers.specs.declared.answers.Answer.TheVariants.{Optimal, Infeasible, Unbounded, Stopped, Memory}
+use Rattle.search_answers.specs.declared.answers.Answer.TheVariants.{Optimal, Within, Infeasible, Unbounded, Stopped, Memory}
 use Rattle.search_parts.specs.Points.{IsIncumbent}
 use Rattle.sound_searches.specs.Sound.{PlainSearch}
 use Rattle.kept_env.specs.Env.{PlainEnv, with_answer}
@@ -22,14 +22,16 @@ held_beside None = held.Nothing
 -- which answer is held afterwards
 abbrev pub held_by : Answer → Option Point → Held
 held_by (Optimal v x n) direction = held.Finished
+held_by (Within g v x n) direction = held.Within g
 held_by (Infeasible n) direction = held.Finished
 held_by (Unbounded n) direction = held_beside direction
 held_by (Stopped why n bound best) direction = held.Nothing
 held_by Memory direction = held.Nothing
 
--- of the points that the search keeps an optimum is the oldest with the best value
+-- of the points that the search keeps an optimum, and one within a gap, is the oldest with the best value
 abbrev pub IsOldest : PlainSearch → Answer → Type 0
 IsOldest S (Optimal v x n) = IsIncumbent S.model S.points (Some x)
+IsOldest S (Within g v x n) = IsIncumbent S.model S.points (Some x)
 IsOldest S (Infeasible n) = Unit {0}
 IsOldest S (Unbounded n) = Unit {0}
 IsOldest S (Stopped why n bound best) = Unit {0}

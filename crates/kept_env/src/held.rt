@@ -3,6 +3,7 @@ ghost use Rattle.std.specs.Prelude.{◌≡◌};
 ghost use Rattle.kept_env.specs.Worked.{held_beside, held_by};
 
 use cert_text::Cert;
+use frac128::Frac;
 use front_text::FrontCert;
 use lp_model::Point;
 use search_answers::Answer;
@@ -15,6 +16,8 @@ pub enum Held {
     Nothing,
     /// That of the search that stands, which has no open leaf.
     Finished,
+    /// That of the search that stands, whose leaves, open or closed, are all within this gap of its best kept point.
+    Within(Frac),
     /// That the model is unbounded, by this ray and the incumbent, which the search keeps.
     Unbounded(Point),
     /// The front of the model, by this certificate. It says nothing of the search that stands.
@@ -42,6 +45,10 @@ pub fn held_by(answer: &Answer, ray: Option<Point>) -> Held
         Answer::Optimal { .. } | Answer::Infeasible { .. } => {
             drop(ray);
             Held::Finished
+        }
+        Answer::Within { gap, .. } => {
+            drop(ray);
+            Held::Within(*gap)
         }
         Answer::Unbounded { .. } => held_beside(ray),
         Answer::Stopped { .. } | Answer::Memory => {

@@ -47,6 +47,7 @@ const LIMITS: Limits = Limits {
     tree: 1_000_000,
     workers: 1,
     seed: 0,
+    gap: None,
 };
 
 /// Prints what was found, with the numbers of an optimum that are not 0.

@@ -11,7 +11,7 @@ use Rattle.lp_model.specs.declared.answers.WideAt.{WideAt}
 use Rattle.lp_model.specs.declared.answers.StopWhy.{StopWhy}
 use Rattle.lp_model.specs.declared.answers.StopWhy.TheVariants as stop
 use Rattle.search_answers.specs.declared.answers.Answer.{Answer}
-use Rattle.search_answers.specs.declared.answers.Answer.TheVariants.{Optimal, Infeasible, Unbounded, Stopped, Memory}
+use Rattle.search_answers.specs.declared.answers.Answer.TheVariants.{Optimal, Within, Infeasible, Unbounded, Stopped, Memory}
 use Rattle.lp_model.specs.declared.types.WideStep.{WideStep}
 use Rattle.reply_texts.specs.Places.{block_text, step_line, step_text}
 
@@ -100,6 +100,13 @@ value_line v n = codes "optimal " ++ printed v ++ codes " nodes " ++ decimal n +
 abbrev pub optimal_text : Program → Point → ℕ → List ℕ
 optimal_text M x n = value_line (value M 1 x) n ++ column_lines M.cols x ++ codes "end\n"
 
+-- a point with its value within a gap, after n results
+abbrev pub within_line : ℚ → ℚ → ℕ → List ℕ
+within_line g v n = codes "within " ++ printed g ++ codes " " ++ printed v ++ codes " nodes " ++ decimal n ++ codes "\n"
+
+abbrev pub within_text : Program → ℚ → Point → ℕ → List ℕ
+within_text M g x n = within_line g (value M 1 x) n ++ column_lines M.cols x ++ codes "end\n"
+
 abbrev pub infeasible_text : ℕ → List ℕ
 infeasible_text n = codes "infeasible nodes " ++ decimal n ++ codes "\n"
 
@@ -179,6 +186,7 @@ wide_bound_text M leaf at_ = codes "bound wide " ++ decimal leaf ++ codes " " ++
 
 abbrev pub answer_text : Program → Answer → List ℕ
 answer_text M (Optimal v x n) = optimal_text M x n
+answer_text M (Within g v x n) = within_text M g x n
 answer_text M (Infeasible n) = infeasible_text n
 answer_text M (Unbounded n) = unbounded_text n
 answer_text M (Stopped why n bound best) = stopped_text M why n bound best

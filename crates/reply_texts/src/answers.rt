@@ -4,7 +4,7 @@ ghost use Rattle.std.specs.List.{All};
 ghost use Rattle.frac128.specs.Range.{Fits};
 ghost use Rattle.lp_model.specs.Program.{value};
 ghost use Rattle.reply_texts.specs.Reports.{AnswerIsShaped, AnswerHasRoom};
-ghost use Rattle.reply_texts.specs.Texts.{value_line, column_line, column_lines, optimal_text, infeasible_text, unbounded_text, number_or_none, known_words, known_text, stopped_pivots_text, stopped_wide_text, stopped_text, answer_text};
+ghost use Rattle.reply_texts.specs.Texts.{value_line, column_line, column_lines, optimal_text, within_line, within_text, infeasible_text, unbounded_text, number_or_none, known_words, known_text, stopped_pivots_text, stopped_wide_text, stopped_text, answer_text};
 
 use crate::blocks::{write_block, write_step_line};
 use crate::fixed::MEMORY_REPLY;
@@ -26,6 +26,30 @@ fn write_value(reply: &mut Vec<u8>, value: &Frac, results: u64) -> Result<(), Al
     ensures { IfOk result (λ _. reply.new.items ≡ reply.old.items ++ value_line value.now results) }
 {
     let Ok(()) = reply.extend_from_slice(b"optimal ") else {
+        return Err(AllocError);
+    };
+    let Ok(()) = value.write_to(reply) else {
+        return Err(AllocError);
+    };
+    write_count_line(reply, b" nodes ", results)
+}
+
+/// The first line of a point within a gap: the gap, the point's value, and how many results were placed.
+fn write_gap_and_value(
+    reply: &mut Vec<u8>,
+    gap: &Frac,
+    value: &Frac,
+    results: u64,
+) -> Result<(), AllocError>
+    ensures { IfOk result (λ _. reply.new.items ≡ reply.old.items ++ within_line gap.now value.now results) }
+{
+    let Ok(()) = reply.extend_from_slice(b"within ") else {
+        return Err(AllocError);
+    };
+    let Ok(()) = gap.write_to(reply) else {
+        return Err(AllocError);
+    };
+    let Ok(()) = reply.extend_from_slice(b" ") else {
         return Err(AllocError);
     };
     let Ok(()) = value.write_to(reply) else {
@@ -88,6 +112,28 @@ fn write_optimal(
     ensures { IfOk result (λ _. reply.new.items ≡ reply.old.items ++ optimal_text model.now point.now results) }
 {
     let Ok(()) = write_value(reply, best, results) else {
+        return Err(AllocError);
+    };
+    let Ok(()) = write_columns(reply, model.cols(), point.as_slice()) else {
+        return Err(AllocError);
+    };
+    reply.extend_from_slice(b"end\n")
+}
+
+/// A point within a gap: the gap, its value, how many results were placed, and its numbers.
+fn write_within(
+    reply: &mut Vec<u8>,
+    model: &Model,
+    gap: &Frac,
+    best: &Frac,
+    point: &Point,
+    results: u64,
+) -> Result<(), AllocError>
+    requires shape { length point.now ≡ length model.now.cols }
+    requires best { best.now ≡ value model.now 1 point.now }
+    ensures { IfOk result (λ _. reply.new.items ≡ reply.old.items ++ within_text model.now gap.now point.now results) }
+{
+    let Ok(()) = write_gap_and_value(reply, gap, best, results) else {
         return Err(AllocError);
     };
     let Ok(()) = write_columns(reply, model.cols(), point.as_slice()) else {
@@ -253,6 +299,12 @@ pub fn write_answer(reply: &mut Vec<u8>, model: &Model, answer: &Answer) -> Resu
             point,
             results,
         } => write_optimal(reply, model, value, point, *results),
+        Answer::Within {
+            gap,
+            value,
+            point,
+            results,
+        } => write_within(reply, model, gap, value, point, *results),
         Answer::Infeasible { results } => write_infeasible(reply, *results),
         Answer::Unbounded { results } => write_unbounded(reply, *results),
         Answer::Stopped {
@@ -275,6 +327,17 @@ fn optimum_has_room(value: &Frac, point: &Point, results: u64)
     have_room(point.as_slice());
 }
 
+/// Nothing happens: a caller learns that the numbers of a point within a gap have room.
+fn within_has_room(gap: &Frac, value: &Frac, point: &Point, results: u64)
+    ensures gap { Fits gap.now }
+    ensures value { Fits value.now }
+    ensures numbers { All Fits point.now }
+    ensures count { results < 2 ^ 64 }
+{
+    gap.has_room();
+    optimum_has_room(value, point, results);
+}
+
 /// Nothing happens: a caller learns that the numbers of an answer have room, so that its text can be read back.
 pub fn answer_has_room(answer: &Answer)
     ensures { AnswerHasRoom answer.now }
@@ -285,6 +348,12 @@ pub fn answer_has_room(answer: &Answer)
             point,
             results,
         } => optimum_has_room(value, point, *results),
+        Answer::Within {
+            gap,
+            value,
+            point,
+            results,
+        } => within_has_room(gap, value, point, *results),
         Answer::Infeasible { .. }
         | Answer::Unbounded { .. }
         | Answer::Stopped { .. }

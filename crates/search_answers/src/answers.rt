@@ -11,6 +11,13 @@ pub enum Answer {
         point: Point,
         results: u64,
     },
+    /// No feasible point beats this one by more than the gap, which is at least 0; its value in objective 1 is given. A leaf is left open.
+    Within {
+        gap: Frac,
+        value: Frac,
+        point: Point,
+        results: u64,
+    },
     /// There is no feasible point.
     Infeasible {
         results: u64,

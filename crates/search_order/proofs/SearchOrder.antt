@@ -24,7 +24,7 @@ use Rattle.tree_search.specs.Solves.{turn_order_of, Course, NothingOpen, StopsFi
 use Rattle.tree_search.specs.Warm.{BesidePoint, GoesOn, Warms, Still, SomeOpen}
 use Rattle.tree_search.specs.declared.limits.Limits.{Limits}
 use Rattle.tree_search.specs.declared.searching.Ended.{Ended}
-use Rattle.tree_search.specs.declared.searching.Ended.TheVariants.{Finished, Unbounded, Stopped}
+use Rattle.tree_search.specs.declared.searching.Ended.TheVariants.{Finished, Within, Unbounded, Stopped}
 use Rattle.tree_search.specs.declared.searching.Searched.{Searched}
 use Rattle.tree_search.specs.declared.searching.Ways.{Ways}
 use Rattle.tree_search.specs.declared.searching.Ways.TheVariants.{Own, Rays}
@@ -45,6 +45,7 @@ module _ (M : Program) (ways : Ways) (first : Basis) (order : Order) (nodes pivo
 
   ends : (n : ℕ) (ended : Ended) → Ends ways first order nodes pivots n old new ended → IsKeptInOrder M new
   ends n Finished p = went M ways first pivots by order n old new p.goes h
+  ends n (Within g) p = went M ways first pivots by order n old new p.goes h
   ends n Unbounded p = points M ways first pivots by p.after.mid new p.after.here (went M ways first pivots by order p.before old p.after.mid p.after.goes h)
   ends n (Stopped reason) p = stops-for n reason p
 

@@ -19,11 +19,11 @@ use Rattle.reply_texts.specs.Places.{block_text, step_line}
 use Rattle.reply_texts.specs.Texts.{column_lines, known_text}
 use Rattle.shell_replies.specs.Shown.{point_shown}
 use Rattle.command_family.specs.Family.{HasCause, IsLawfulFamily}
-use Rattle.command_family.specs.Kinds.{Kind, Optimal, Infeasible, Unbounded, StoppedNodes, StoppedTree, StoppedPivots, StoppedWide, NoModel, OverLimit, WantsMemory, Is, IsError}
+use Rattle.command_family.specs.Kinds.{Kind, Optimal, Within, Infeasible, Unbounded, StoppedNodes, StoppedTree, StoppedPivots, StoppedWide, NoModel, OverLimit, WantsMemory, Is, IsError}
 use Rattle.command_family.specs.State.{ShellState}
 use Rattle.command_family.specs.Unchanged.{IsRefused}
 use Rattle.command_family.proofs.ReplyLemmas.{not_error}
-use Rattle.search_replies.specs.Showing.{Finding, TellsBy, ShowsOptimumBy, ShowsEmptinessBy, ShowsNoEndBy, ShowsNodeStopBy, ShowsTreeStopBy, ShowsPivotStopBy, ShowsWideStopBy, AnswersBy, Optimum, Emptiness, NoEnd, NodeStop, TreeStop, PivotStop, WideStop, Wanting, EndsBy}
+use Rattle.search_replies.specs.Showing.{Finding, TellsBy, ShowsOptimumBy, ShowsWithinBy, ShowsEmptinessBy, ShowsNoEndBy, ShowsNodeStopBy, ShowsTreeStopBy, ShowsPivotStopBy, ShowsWideStopBy, AnswersBy, Optimum, Gap, Emptiness, NoEnd, NodeStop, TreeStop, PivotStop, WideStop, Wanting, EndsBy}
 use Rattle.search_replies.specs.Workers.{worker_limit, crowd_text}
 use Rattle.search_replies.specs.Solve.{limits_of, HasFewNodes, RepliesToSolve}
 use Rattle.search_replies.specs.Warming.{WentOn, RepliesToWarm}
@@ -34,10 +34,16 @@ use Rattle.search_replies.proofs.ReplyLemmas.{solves-model}
 abbrev value_tail : ℚ → ℕ → List ℕ
 value_tail v n = printed v ++ codes " nodes " ++ decimal n ++ codes "\n"
 
+-- and that of a point within a gap
+abbrev within_tail : ℚ → ℚ → ℕ → List ℕ
+within_tail g v n = printed g ++ codes " " ++ printed v ++ codes " nodes " ++ decimal n ++ codes "\n"
+
 module _ (old : ShellState) (reply : List ℕ) (new : ShellState) where
   -- the bytes of an answer's reply are of its kind
   shown_kind : (Found : Finding) (Left : PlainSearch → Type 0) (Enough Small : Type 0) (M : Program) (l : Limits) → AnswersBy Found Left Enough Small M l reply new.env → (k : Kind) × (Is k reply × ¬ IsError k)
   shown_kind Found Left Enough Small M l (Optimum s) = (Optimal, ((value_tail (value M 1 (point_shown M reply)) s.results ++ column_lines M.cols (point_shown M reply) ++ codes "end\n", s.told.shown), λ e. e))
+  shown_kind Found Left Enough Small M l (Gap s) =
+      (Within, ((within_tail s.gap (value M 1 (point_shown M reply)) s.results ++ column_lines M.cols (point_shown M reply) ++ codes "end\n", s.told.shown), λ e. e))
   shown_kind Found Left Enough Small M l (Emptiness s) = (Infeasible, ((codes "nodes " ++ decimal s.results ++ codes "\n", s.told.shown), λ e. e))
   shown_kind Found Left Enough Small M l (NoEnd s) = (Unbounded, ((codes "nodes " ++ decimal s.results ++ codes "\n", s.told.shown), λ e. e))
   shown_kind Found Left Enough Small M l (NodeStop s) = (StoppedNodes, ((known_text l.nodes s.bound s.best, s.told.shown), λ e. e))
@@ -51,6 +57,7 @@ module _ (old : ShellState) (reply : List ℕ) (new : ShellState) where
   shows_cause : (asks : SearchAsks) (Found : Finding) (Left : PlainSearch → Type 0) (Enough Small : Type 0) (M : Program) (l : Limits) → ((P : OfSearch) → P Found Enough Small M l → Searched asks old new P) → AnswersBy Found Left Enough Small M l reply new.env → HasCause searches asks old reply new
   unfolding shown_kind
   shows_cause asks Found Left Enough Small M l asked (Optimum s) = record { kind = Optimal; is = (shown_kind Found Left Enough Small M l (Optimum s)).1.0; cause = asked (λ F E T N k. ShowsOptimumBy F N k reply new.env) s }
+  shows_cause asks Found Left Enough Small M l asked (Gap s) = record { kind = Within; is = (shown_kind Found Left Enough Small M l (Gap s)).1.0; cause = asked (λ F E T N k. ShowsWithinBy F N k reply new.env) s }
   shows_cause asks Found Left Enough Small M l asked (Emptiness s) = record { kind = Infeasible; is = (shown_kind Found Left Enough Small M l (Emptiness s)).1.0; cause = asked (λ F E T N k. ShowsEmptinessBy F N k reply new.env) s }
   shows_cause asks Found Left Enough Small M l asked (NoEnd s) = record { kind = Unbounded; is = (shown_kind Found Left Enough Small M l (NoEnd s)).1.0; cause = asked (λ F E T N k. ShowsNoEndBy F N k reply new.env) s }
   shows_cause asks Found Left Enough Small M l asked (NodeStop s) = record { kind = StoppedNodes; is = (shown_kind Found Left Enough Small M l (NodeStop s)).1.0; cause = asked (λ F E T N k. ShowsNodeStopBy F E N k reply new.env) s }
@@ -110,6 +117,7 @@ module _ (old : ShellState) (reply : List ℕ) (new : ShellState) where
   shown_model : (Found : Finding) (Left : PlainSearch → Type 0) (Enough Small : Type 0) (M : Program) (l : Limits) → ((a : Answer) (T : PlainSearch) → Found a T → T.model ≡ M) → ((T : PlainSearch) → Left T → T.model ≡ M)
       → AnswersBy Found Left Enough Small M l reply new.env → model_of new.env ≡ Some M
   shown_model Found Left Enough Small M l same kept (Optimum s) = told_model Found M same _ _ s.told
+  shown_model Found Left Enough Small M l same kept (Gap s) = told_model Found M same _ _ s.told
   shown_model Found Left Enough Small M l same kept (Emptiness s) = told_model Found M same _ _ s.told
   shown_model Found Left Enough Small M l same kept (NoEnd s) = told_model Found M same _ _ s.told
   shown_model Found Left Enough Small M l same kept (NodeStop s) = told_model Found M same _ _ s.told
@@ -167,13 +175,14 @@ module _ (old : ShellState) (reply : List ℕ) (new : ShellState) where
   -- a search with enough of all ends with an answer
   finishes : (Found : Finding) (Left : PlainSearch → Type 0) (Enough Small : Type 0) (M : Program) (l : Limits) → Enough → AnswersBy Found Left Enough Small M l reply new.env → EndsBy Found M l reply new.env
   finishes Found Left Enough Small M l enough (Optimum s) = inl s
-  finishes Found Left Enough Small M l enough (Emptiness s) = inr (inl s)
-  finishes Found Left Enough Small M l enough (NoEnd s) = inr (inr (inl s))
+  finishes Found Left Enough Small M l enough (Gap s) = inr (inl s)
+  finishes Found Left Enough Small M l enough (Emptiness s) = inr (inr (inl s))
+  finishes Found Left Enough Small M l enough (NoEnd s) = inr (inr (inr (inl s)))
   finishes Found Left Enough Small M l enough (NodeStop s) = absurd (s.short enough)
   finishes Found Left Enough Small M l enough (TreeStop s) = absurd (s.stop.short enough)
   finishes Found Left Enough Small M l enough (PivotStop s) = absurd (s.stop.short enough)
   finishes Found Left Enough Small M l enough (WideStop s) = absurd (s.stop.short enough)
-  finishes Found Left Enough Small M l enough (Wanting s) = inr (inr (inr s.told))
+  finishes Found Left Enough Small M l enough (Wanting s) = inr (inr (inr (inr s.told)))
 
   completes : (S : PlainSearch) (options : SearchOptions) → options.workers ≤ worker_limit → SearchStep (Solve options) old reply new → old.env.search ≡ Some S → IsEnough S.model (pool_in new.env.search) (limits_of options)
       → EndsBy (Solved S.model (limits_of options)) S.model (limits_of options) reply new.env
@@ -202,7 +211,8 @@ searches-complete old reply new = record {
   complete = λ S options few step present enough. completes old reply new S options few step present enough;
   complete_warm = λ S options few step present enough. completes_warm old reply new S options few step present enough;
   again = λ S options few step present. (warmed old reply new S options few step present).1.0;
-  beside_ray = λ S options few step present. (warmed old reply new S options few step present).1.1;
+  again_within = λ S options few step present. (warmed old reply new S options few step present).1.1.1;
+  beside_ray = λ S options few step present. (warmed old reply new S options few step present).1.1.0;
 }
 
 pub searches-lawful : IsLawfulFamily searches

@@ -1,3 +1,4 @@
 pub mod AnswerLemmas
+pub mod WithinLemmas
 pub mod ReplyLemmas
 pub mod CauseLemmas

@@ -1,15 +1,16 @@
 -- What the reply to a search shows.
-use Rattle.std.proofs.Common.{◌≡◌, ℕ, ◌+◌, ◌<◌, ◌≤◌, ◌^◌, arith, List, [], ◌++◌, refl, subst, sym, ap, ◌∙◌, inl, inr, ⊎_elim, Option, Some, None, Ok, Err, Result}
+use Rattle.std.proofs.Common.{◌≡◌, ◌⊎◌, ℕ, ◌+◌, ◌<◌, ◌≤◌, ◌^◌, arith, List, [], ◌++◌, refl, subst, sym, ap, ◌∙◌, inl, inr, ⊎_elim, Option, Some, None, Ok, Err, Result}
 use Rattle.std.specs.Prelude.{◌*◌, ◌-◌, max, OnOk, OnErr, IfOk, IfSome, length}
 use Rattle.std.specs.Option.{option_map}
+use Rattle.frac128.specs.Rational.{ℚ}
 use Rattle.frac128.specs.Range.{Fits}
 use Rattle.sym_io.specs.Files.{Files}
 use Rattle.command_words.specs.declared.options.SearchOptions.{SearchOptions}
 use Rattle.lp_model.specs.Lawful.{IsLawful}
-use Rattle.lp_model.specs.Program.{Program, Point, IsOptimum, value}
+use Rattle.lp_model.specs.Program.{Program, Point, IsOptimum, IsWithinGap, value}
 use Rattle.lp_model.specs.declared.answers.StopWhy.TheVariants.{Nodes, Tree, Pivots, Wide}
 use Rattle.search_answers.specs.declared.answers.Answer.{Answer}
-use Rattle.search_answers.specs.declared.answers.Answer.TheVariants.{Optimal, Infeasible, Unbounded, Stopped, Memory}
+use Rattle.search_answers.specs.declared.answers.Answer.TheVariants.{Optimal, Within, Infeasible, Unbounded, Stopped, Memory}
 use Rattle.model_points.specs.Rays.{IsUnbounded}
 use Rattle.word_names.specs.WordNames.{HasWordNames}
 use Rattle.word_names.specs.ScriptModels.{IsScriptModel}
@@ -23,26 +24,28 @@ use Rattle.branch_tree.specs.Changes.{first_tree}
 use Rattle.search_counting.specs.Work.{whole_points, cap_of, HasRoomFor}
 use Rattle.search_counting.proofs.FreshLemmas.{first-roomy}
 use Rattle.search_parts.specs.Points.{IsIncumbent}
+use Rattle.sound_searches.specs.Calls.{search_with_limit}
 use Rattle.sound_searches.specs.Sound.{PlainSearch}
 use Rattle.tree_search.specs.Enough.{IsEnough, IsKeptEnough}
 use Rattle.tree_search.specs.Solves.{Solved, SolvesModel, SolvesFrom, HasRayFor, HasRayFrom}
 use Rattle.tree_search.specs.Truth.{IsCount, IsTrueBy, IsTrueAnswer, IsTrueOfKept, HasEnded, IsTooSmall}
-use Rattle.tree_search.specs.Warm.{WarmsFrom}
+use Rattle.tree_search.specs.Warm.{Warms, WarmsFrom, PlacesNoResult}
 use Rattle.tree_search.specs.declared.limits.Limits.{Limits}
 use Rattle.kept_env.specs.Env.{PlainEnv, model_of, pool_in}
 use Rattle.kept_env.specs.Worked.{Worked, WorksEnv, held_by, IsOldest}
 use Rattle.kept_env.specs.declared.env.EnvFault.{EnvFault}
 use Rattle.reply_texts.specs.Reports.{AnswerIsShaped, AnswerHasRoom}
-use Rattle.reply_texts.specs.Texts.{optimal_text, stopped_nodes_text, answer_text, no_model_text}
+use Rattle.reply_texts.specs.Texts.{optimal_text, within_text, stopped_nodes_text, answer_text, no_model_text}
 use Rattle.shell_replies.specs.Shown.{point_shown}
-use Rattle.shell_replies.proofs.ShownBack.{point-shown, value-shown}
+use Rattle.shell_replies.proofs.ShownBack.{point-shown, value-shown, point-within, gap-within, value-within}
 use Rattle.command_family.specs.State.{shell_state, HasScriptModel, HasOrder}
 use Rattle.command_family.proofs.ReplyLemmas.{on_ok_if, always}
 use Rattle.search_replies.specs.Answering.{IsAnswerOf, IsTellable, search_text}
-use Rattle.search_replies.specs.Showing.{Finding, ShowsNoEndBy, AnswersBy, Optimum, Emptiness, NoEnd, NodeStop, TreeStop, PivotStop, WideStop, Wanting}
+use Rattle.search_replies.specs.Showing.{Finding, ShowsNoEndBy, AnswersBy, Optimum, Gap, Emptiness, NoEnd, NodeStop, TreeStop, PivotStop, WideStop, Wanting}
 use Rattle.search_replies.specs.Workers.{Staffed}
 use Rattle.search_replies.specs.Solve.{limits_of, IsSolvedEnv, HasFewNodes, AnswersSolve, RepliesToSolve, SolveStep}
-use Rattle.search_replies.specs.Warming.{IsWarmed, WentOn, TellsAgain, TellsNoEnd, AnswersWarm, RepliesToWarm, WarmStep}
+use Rattle.search_replies.proofs.WithinLemmas.{Reached, solved-within, warmed-within}
+use Rattle.search_replies.specs.Warming.{IsWarmed, WentOn, TellsAgain, TellsWithinAgain, TellsNoEnd, AnswersWarm, RepliesToWarm, WarmStep}
 
 -- ---- whatever search was had
 
@@ -56,6 +59,8 @@ record Has (Found : Finding) (Left : PlainSearch → Type 0) (M : Program) (l : 
   direction : Option Point
   has_ray : HasRayFor M l.pivots answer direction
   env_is : env ≡ record { search = Some search; held = held_by answer direction }
+  -- within a gap a leaf is open, and all leaves are within it
+  reached : (g v : ℚ) (x : Point) (n : ℕ) → answer ≡ Within g v x n → Reached g search
 
 -- that the objective has no end is held with the ray
 no-end : (Found : Finding) (M : Program) (l : Limits) (n : ℕ) (new : PlainEnv) (T : PlainSearch) (direction : Option Point) → IsUnbounded M → IsCount M l n → Found (Unbounded n) T → HasRayFor M l.pivots (Unbounded n) direction
@@ -92,6 +97,33 @@ module _ (Found : Finding) (Left : PlainSearch → Type 0) (Enough Small : Type 
         };
         oldest = subst (λ N. IsIncumbent N s.search.points (Some (point_shown M text))) s.model (subst (λ y. IsIncumbent s.search.model s.search.points (Some y)) (sym back) s.oldest);
         count = is.1;
+      })
+  answers (Within g v x n) new room is complete s =
+      let text : List ℕ = within_text M g x n in
+      let worth : v ≡ value M 1 x = is.0.1.1 in
+      let fits : Fits (value M 1 x) = subst Fits worth room.1.0 in
+      let shape : length x ≡ length M.cols = is.0.1.0.feasible.shape in
+      let back : point_shown M text ≡ x = point-within M g x n room.1.1.1 shape plain lawful.columns_distinct room.0 room.1.1.0 fits in
+      let found : Found (Within g v x n) s.search = s.found (λ e. cc) in
+      let reached = s.reached g v x n refl in
+      Gap (record {
+        gap = g;
+        asked = is.0.0;
+        gap_is = gap-within M g x n room.1.1.1 plain room.0 room.1.1.0 fits;
+        within = subst (λ y. IsWithinGap M g y) (sym back) is.0.1.0;
+        worth = value-within M g x n room.1.1.1 plain room.0 room.1.1.0 fits ∙ ap (λ y. Some (value M 1 y)) (sym back);
+        results = n;
+        told = record {
+          search = s.search;
+          solved = subst (λ y. Found (Within g (value M 1 y) y n) s.search) (sym back) (subst (λ w. Found (Within g w x n) s.search) worth found);
+          env_is = s.env_is;
+          shown = ap (λ y. within_text M g y n) (sym back);
+        };
+        oldest = subst (λ N. IsIncumbent N s.search.points (Some (point_shown M text))) s.model (subst (λ y. IsIncumbent s.search.model s.search.points (Some y)) (sym back) s.oldest);
+        left = reached.0;
+        leaves = reached.1;
+        within_limit = is.1.0;
+        below_cap = is.1.1;
       })
   answers (Infeasible n) new room is complete s = Emptiness (record {
     empty = is.0;
@@ -183,6 +215,7 @@ solves-has l old answer new s = record {
   direction = s.direction;
   has_ray = s.has_ray;
   env_is = s.env_is;
+  reached = λ g v x n is. solved-within g v x n old.model l old s.search (subst (λ a. SolvesModel old.model l old a s.search) is s.found);
 }
 
 -- a new tree without room for the most splits may have fewer nodes than the most results
@@ -198,6 +231,7 @@ small-nodes M l few small = less l.tree (cap_of M) (λ within. small (first-room
 -- so it is told
 true-small : (M : Program) (l : Limits) → l.tree ≤ 2 ^ 63 → (answer : Answer) → IsTrueAnswer M l answer → IsTrueBy (HasFewNodes M l) M l answer
 true-small M l few (Optimal v x n) is = is
+true-small M l few (Within g v x n) is = is
 true-small M l few (Infeasible n) is = is
 true-small M l few (Unbounded n) is = is
 true-small M l few (Stopped Nodes n bound best) is = is
@@ -209,6 +243,7 @@ true-small M l few Memory is = tt
 -- an optimum has a number for each column, and its value
 true-shaped : (Small : Type 0) (M : Program) (l : Limits) (answer : Answer) → IsTrueBy Small M l answer → AnswerIsShaped M answer
 true-shaped Small M l (Optimal v x n) is = (is.0.0.feasible.shape, is.0.1)
+true-shaped Small M l (Within g v x n) is = (is.0.1.0.feasible.shape, is.0.1.1)
 true-shaped Small M l (Infeasible n) is = tt
 true-shaped Small M l (Unbounded n) is = tt
 true-shaped Small M l (Stopped why n bound best) is = tt
@@ -228,6 +263,7 @@ warms-has l old answer new s =
       direction = s.direction;
       has_ray = s.has_ray;
       env_is = s.env_is;
+      reached = λ g v x n is. warmed-within g v x n l (search_with_limit old l.tree) s.search (subst (λ a. Warms l (search_with_limit old l.tree) a s.search) is s.found.warms);
     }
 
 -- ---- the model stays
@@ -329,6 +365,11 @@ module _ (l : Limits) (few : l.tree ≤ 2 ^ 63) (old new : PlainEnv) (r : Result
       by (Ok answer) (Some S) some h = model-script old new S some (has-model (Solved S.model l) (SolvesModel S.model l S Memory) S.model l answer new (solves-has l S answer new h)) script
       by (Err f) (Some S) some h = absurd h
 
+-- nothing is placed where memory was wanting either
+no-result : {A : Type 0} (answer : Answer) → (answer ≡ Memory) ⊎ (PlacesNoResult answer × A) → PlacesNoResult answer
+no-result answer (inl wants) = subst PlacesNoResult (sym wants) tt
+no-result answer (inr none) = none.0
+
 module _ (l : Limits) (old new : PlainEnv) (r : Result Answer EnvFault) (warmed : IsWarmed l old r new) (script : HasScriptModel old) where
   warm-shows : (answer : Answer) (M : Program) → r ≡ Ok answer → model_of new ≡ Some M → IsLawful M → AnswerHasRoom answer → RepliesToWarm old old.search l (answer_text M answer) new
   warm-shows answer M ok present lawful room =
@@ -345,8 +386,9 @@ module _ (l : Limits) (old new : PlainEnv) (r : Result Answer EnvFault) (warmed 
           let plain : HasWordNames S.model = plain-names new S.model stays (model-script old new S some stays script) in
           let again : TellsAgain S (answer_text S.model answer) = λ none. (answer, ((h.found.again none).0, refl)) in
           let no_end : TellsNoEnd S l (answer_text S.model answer) = λ kept ray. ⊎_elim (λ e. inl (ap (answer_text S.model) e)) (λ e. inr (ap (answer_text S.model) e)) (h.found.beside kept ray) in
-          subst (λ N. AnswersWarm S l (answer_text N answer) new × (TellsAgain S (answer_text N answer) × TellsNoEnd S l (answer_text N answer))) same
-          (answers (WentOn S l) (WentOn S l Memory) (IsKeptEnough S (pool_in new.search) l) (IsTooSmall S l) S.model l (subst IsLawful (sym same) lawful) plain answer new room t e has, (again, no_end))
+          let gap_again : TellsWithinAgain S l (answer_text S.model answer) = λ g asked left leaves. (answer, (no-result answer (h.found.within g asked left leaves), refl)) in
+          subst (λ N. AnswersWarm S l (answer_text N answer) new × (TellsAgain S (answer_text N answer) × (TellsNoEnd S l (answer_text N answer) × TellsWithinAgain S l (answer_text N answer)))) same
+          (answers (WentOn S l) (WentOn S l Memory) (IsKeptEnough S (pool_in new.search) l) (IsTooSmall S l) S.model l (subst IsLawful (sym same) lawful) plain answer new room t e has, (again, (no_end, gap_again)))
 
   none-warmed : (fault : EnvFault) (reply : List ℕ) → r ≡ Err fault → reply ≡ no_model_text → RepliesToWarm old old.search l reply new
   none-warmed fault reply fails e = by old.search (subst (λ o. WorksEnv (WarmsFrom l) (HasRayFrom l) old.search old o new) fails warmed.warms)

@@ -10,12 +10,12 @@ use Rattle.tree_search.specs.declared.limits.Limits.{Limits}
 use Rattle.kept_env.specs.Env.{pool_in}
 use Rattle.reply_texts.specs.Texts.{no_model_text, limit_text, memory_text}
 use Rattle.command_family.specs.Family.{Family}
-use Rattle.command_family.specs.Kinds.{Kind, Optimal, Infeasible, Unbounded, StoppedNodes, StoppedTree, StoppedPivots, StoppedWide, NoModel, OverLimit, WantsMemory}
+use Rattle.command_family.specs.Kinds.{Kind, Optimal, Within, Infeasible, Unbounded, StoppedNodes, StoppedTree, StoppedPivots, StoppedWide, NoModel, OverLimit, WantsMemory}
 use Rattle.command_family.specs.State.{ShellState}
-use Rattle.search_replies.specs.Showing.{Finding, ShowsOptimumBy, ShowsEmptinessBy, ShowsNoEndBy, ShowsNodeStopBy, ShowsTreeStopBy, ShowsPivotStopBy, ShowsWideStopBy, EndsBy}
+use Rattle.search_replies.specs.Showing.{Finding, ShowsOptimumBy, ShowsWithinBy, ShowsEmptinessBy, ShowsNoEndBy, ShowsNodeStopBy, ShowsTreeStopBy, ShowsPivotStopBy, ShowsWideStopBy, EndsBy}
 use Rattle.search_replies.specs.Workers.{worker_limit}
 use Rattle.search_replies.specs.Solve.{limits_of, HasFewNodes, SolveStep}
-use Rattle.search_replies.specs.Warming.{WentOn, TellsAgain, TellsNoEnd, WarmStep}
+use Rattle.search_replies.specs.Warming.{WentOn, TellsAgain, TellsWithinAgain, TellsNoEnd, WarmStep}
 
 pub data SearchAsks : Type 0 where
   -- the model that is present, from a fresh root
@@ -58,9 +58,10 @@ Searched (Warm options) old new P = SearchAsked options old (λ S l. P (WentOn S
 
 -- what a reply to `solve` or `warm` says for sure
 abbrev pub SearchCause : SearchAsks → Kind → ShellState → List ℕ → ShellState → Type 0
--- the headline: what is shown is an optimum of the model that is present, as it was edited, or it has no feasible point, or its objective
--- has no end
+-- the headline: what is shown is an optimum of the model that is present, as it was edited, or within the gap of one; or it has no feasible
+-- point, or its objective has no end
 SearchCause asks Optimal old reply new = Searched asks old new (λ Found Enough Small M l. ShowsOptimumBy Found M l reply new.env)
+SearchCause asks Within old reply new = Searched asks old new (λ Found Enough Small M l. ShowsWithinBy Found M l reply new.env)
 SearchCause asks Infeasible old reply new = Searched asks old new (λ Found Enough Small M l. ShowsEmptinessBy Found M l reply new.env)
 SearchCause asks Unbounded old reply new = Searched asks old new (λ Found Enough Small M l. ShowsNoEndBy Found M l reply new.env)
 -- what is known where a search stopped, and why it stopped
@@ -88,6 +89,8 @@ pub record IsComplete (old : ShellState) (reply : List ℕ) (new : ShellState) :
       → EndsBy (WentOn S (limits_of options)) S.model (limits_of options) reply new.env
   -- `warm` after a search that closed every leaf places no result
   pub again : (S : PlainSearch) (options : SearchOptions) → options.workers ≤ worker_limit → SearchStep (Warm options) old reply new → old.env.search ≡ Some S → TellsAgain S reply
+  -- nor does it with a gap within which the search that is kept is
+  pub again_within : (S : PlainSearch) (options : SearchOptions) → options.workers ≤ worker_limit → SearchStep (Warm options) old reply new → old.env.search ≡ Some S → TellsWithinAgain S (limits_of options) reply
   -- where its ray phase finds a ray beside a kept point, the objective has no end, and `warm` places no result
   pub beside_ray : (S : PlainSearch) (options : SearchOptions) → options.workers ≤ worker_limit → SearchStep (Warm options) old reply new → old.env.search ≡ Some S → TellsNoEnd S (limits_of options) reply
 

@@ -5,13 +5,13 @@
 --     Small              that its tree was too small
 use Rattle.std.specs.Prelude.{◌≡◌, ◌⊎◌, ℕ, ◌<◌, ◌≤◌, List, Option, Some}
 use Rattle.frac128.specs.Rational.{ℚ}
-use Rattle.lp_model.specs.Program.{Program, Point, IsOptimum, IsEmpty, value}
+use Rattle.lp_model.specs.Program.{Program, Point, IsOptimum, IsWithinGap, IsEmpty, value}
 use Rattle.lp_model.specs.declared.answers.PivotPlace.{PivotPlace}
 use Rattle.lp_model.specs.declared.answers.WideAt.{WideAt}
 use Rattle.lp_model.specs.declared.answers.StopWhy.{StopWhy}
 use Rattle.lp_model.specs.declared.answers.StopWhy.TheVariants.{Nodes, Tree, Pivots, Wide}
 use Rattle.search_answers.specs.declared.answers.Answer.{Answer}
-use Rattle.search_answers.specs.declared.answers.Answer.TheVariants.{Optimal, Infeasible, Unbounded, Stopped}
+use Rattle.search_answers.specs.declared.answers.Answer.TheVariants.{Optimal, Within, Infeasible, Unbounded, Stopped}
 use Rattle.model_points.specs.Rays.{IsRay, IsUnbounded}
 use Rattle.ray_phase.specs.Answers.{IsRayAnswer}
 use Rattle.ray_phase.specs.declared.phase.RayAnswer.TheVariants as phase
@@ -20,13 +20,15 @@ use Rattle.search_parts.specs.Points.{IsIncumbent}
 use Rattle.sound_searches.specs.Sound.{PlainSearch}
 use Rattle.model_points.specs.Bounds.{IsBound, IsFoundValue}
 use Rattle.tree_search.specs.Truth.{IsCount}
+use Rattle.tree_search.specs.Steps.{HasOpenLeaf}
+use Rattle.search_gaps.specs.Within.{AreLeavesWithin}
 use Rattle.tree_search.specs.declared.limits.Limits.{Limits}
 use Rattle.kept_env.specs.Env.{PlainEnv}
 use Rattle.kept_env.specs.declared.held.Held.{Held}
 use Rattle.kept_env.specs.declared.held.Held.TheVariants.{Nothing, Finished}
 use Rattle.kept_env.specs.declared.held.Held.TheVariants as holding
 use Rattle.reply_texts.specs.Texts.{answer_text, memory_text}
-use Rattle.shell_replies.specs.Shown.{point_shown, value_shown}
+use Rattle.shell_replies.specs.Shown.{point_shown, value_shown, gap_shown, value_within_shown}
 
 abbrev pub Finding : Type 1
 Finding = Answer → PlainSearch → Type 0
@@ -49,6 +51,24 @@ pub record ShowsOptimumBy (Found : Finding) (M : Program) (l : Limits) (reply : 
   pub told : TellsBy Found M (Optimal (value M 1 (point_shown M reply)) (point_shown M reply) results) Finished reply env
   pub oldest : IsIncumbent M told.search.points (Some (point_shown M reply))
   pub count : IsCount M l results
+
+-- The point that the reply shows is feasible, and no feasible point beats it by more than the gap that the reply shows, which was asked for; the
+-- value that it shows is the point's. All three are read from the reply's bytes alone, and the reply is nothing but them and the number of results.
+-- A leaf is open, and all leaves are within the gap. Of the points that the search keeps it is the oldest with the best value. The search is held
+-- with the gap.
+pub record ShowsWithinBy (Found : Finding) (M : Program) (l : Limits) (reply : List ℕ) (env : PlainEnv) : Type 0 where
+  pub gap : ℚ
+  pub asked : l.gap ≡ Some gap
+  pub gap_is : gap_shown reply ≡ Some gap
+  pub within : IsWithinGap M gap (point_shown M reply)
+  pub worth : value_within_shown reply ≡ Some (value M 1 (point_shown M reply))
+  pub results : ℕ
+  pub told : TellsBy Found M (Within gap (value M 1 (point_shown M reply)) (point_shown M reply) results) (holding.Within gap) reply env
+  pub oldest : IsIncumbent M told.search.points (Some (point_shown M reply))
+  pub left : HasOpenLeaf told.search
+  pub leaves : AreLeavesWithin told.search gap
+  pub within_limit : results ≤ l.nodes
+  pub below_cap : results < cap_of M
 
 -- the reply says truly that no point is feasible, and the search is held
 pub record ShowsEmptinessBy (Found : Finding) (M : Program) (l : Limits) (reply : List ℕ) (env : PlainEnv) : Type 0 where
@@ -113,6 +133,7 @@ pub record WantsBy (Left : PlainSearch → Type 0) (reply : List ℕ) (env : Pla
 -- what a search of the model may be answered that may go so far
 pub data AnswersBy (Found : Finding) (Left : PlainSearch → Type 0) (Enough Small : Type 0) (M : Program) (l : Limits) (reply : List ℕ) (env : PlainEnv) : Type 0 where
   Optimum : ShowsOptimumBy Found M l reply env → AnswersBy Found Left Enough Small M l reply env
+  Gap : ShowsWithinBy Found M l reply env → AnswersBy Found Left Enough Small M l reply env
   Emptiness : ShowsEmptinessBy Found M l reply env → AnswersBy Found Left Enough Small M l reply env
   NoEnd : ShowsNoEndBy Found M l reply env → AnswersBy Found Left Enough Small M l reply env
   NodeStop : ShowsNodeStopBy Found Enough M l reply env → AnswersBy Found Left Enough Small M l reply env
@@ -121,6 +142,6 @@ pub data AnswersBy (Found : Finding) (Left : PlainSearch → Type 0) (Enough Sma
   WideStop : ShowsWideStopBy Found Enough M l reply env → AnswersBy Found Left Enough Small M l reply env
   Wanting : WantsBy Left reply env → AnswersBy Found Left Enough Small M l reply env
 
--- the search went to its end, or there was no memory
+-- the search went to its end, or is within its gap, or there was no memory
 abbrev pub EndsBy : Finding → Program → Limits → List ℕ → PlainEnv → Type 0
-EndsBy Found M l reply env = ShowsOptimumBy Found M l reply env ⊎ ShowsEmptinessBy Found M l reply env ⊎ ShowsNoEndBy Found M l reply env ⊎ (reply ≡ memory_text)
+EndsBy Found M l reply env = ShowsOptimumBy Found M l reply env ⊎ ShowsWithinBy Found M l reply env ⊎ ShowsEmptinessBy Found M l reply env ⊎ ShowsNoEndBy Found M l reply env ⊎ (reply ≡ memory_text)

@@ -21,7 +21,7 @@ use Rattle.search_replies.specs.Workers.{Staffed}
 
 -- how far a search goes with these options
 abbrev pub limits_of : SearchOptions → Limits
-limits_of options = record { nodes = options.nodes; pivots = options.pivots; tree = node_limit; workers = options.workers; seed = options.seed }
+limits_of options = record { nodes = options.nodes; pivots = options.pivots; tree = node_limit; workers = options.workers; seed = options.seed; gap = options.gap }
 
 -- What is known where the model of an environment was solved: the search that the new one has, how it was had, and what of it is held; that
 -- the answer is true of the model; and that it is the end, where there was enough of all.

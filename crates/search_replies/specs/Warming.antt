@@ -10,7 +10,10 @@ use Rattle.sound_searches.specs.Sound.{PlainSearch}
 use Rattle.tree_search.specs.Extends.{Extends}
 use Rattle.tree_search.specs.Enough.{IsKeptEnough}
 use Rattle.tree_search.specs.Solves.{HasRayFrom}
-use Rattle.tree_search.specs.Warm.{Warms, WarmsFrom, PlacesNone}
+use Rattle.tree_search.specs.Warm.{Warms, WarmsFrom, PlacesNone, PlacesNoResult}
+use Rattle.tree_search.specs.Steps.{HasOpenLeaf}
+use Rattle.search_gaps.specs.Within.{AreLeavesWithin}
+use Rattle.frac128.specs.Rational.{ℚ}
 use Rattle.tree_search.specs.Truth.{IsTooSmall, IsTrueOfKept, HasEnded}
 use Rattle.tree_search.specs.declared.limits.Limits.{Limits}
 use Rattle.kept_env.specs.Env.{PlainEnv, pool_in}
@@ -42,6 +45,10 @@ AnswersWarm S l reply env = AnswersBy (WentOn S l) (WentOn S l Memory) (IsKeptEn
 abbrev pub TellsAgain : PlainSearch → List ℕ → Type 0
 TellsAgain S reply = HasNoOpenLeaf S → (answer : Answer) × (PlacesNone answer × (reply ≡ answer_text S.model answer))
 
+-- a search that is within the gap already places nothing: the reply is the text of an answer without a result
+abbrev pub TellsWithinAgain : PlainSearch → Limits → List ℕ → Type 0
+TellsWithinAgain S l reply = (g : ℚ) → l.gap ≡ Some g → HasOpenLeaf S → AreLeavesWithin S g → (answer : Answer) × (PlacesNoResult answer × (reply ≡ answer_text S.model answer))
+
 -- beside a kept point a ray shows that the objective has no end: nothing is placed, or memory was wanting
 abbrev pub TellsNoEnd : PlainSearch → Limits → List ℕ → Type 0
 TellsNoEnd S l reply = 0 < length S.points → FindsRay S.model l.pivots → (reply ≡ unbounded_text 0) ⊎ (reply ≡ memory_text)
@@ -49,7 +56,7 @@ TellsNoEnd S l reply = 0 < length S.points → FindsRay S.model l.pivots → (re
 -- of the environment's search, if there is one
 abbrev pub RepliesToWarm : PlainEnv → Option PlainSearch → Limits → List ℕ → PlainEnv → Type 0
 RepliesToWarm old None l reply env = ((reply ≡ no_model_text) ⊎ (reply ≡ memory_text)) × (env ≡ old)
-RepliesToWarm old (Some S) l reply env = AnswersWarm S l reply env × (TellsAgain S reply × TellsNoEnd S l reply)
+RepliesToWarm old (Some S) l reply env = AnswersWarm S l reply env × (TellsAgain S reply × (TellsNoEnd S l reply × TellsWithinAgain S l reply))
 
 -- the files stay
 pub record WarmStep (old : ShellState) (options : SearchOptions) (reply : List ℕ) (new : ShellState) : Type 0 where

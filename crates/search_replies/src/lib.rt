@@ -1,4 +1,4 @@
-//! What `solve [nodes N] [pivots N] [workers K seed S]` and `warm` with the same options are answered.
+//! What `solve [nodes N] [pivots N] [gap G] [workers K seed S]` and `warm` with the same options are answered.
 //!
 //! ```text
 //! solve      Solved M l answer T        a fresh search of M, which went no further than l, became T, and this was found
@@ -12,6 +12,8 @@
 //! ```text
 //! optimal V ..       a feasible point that no feasible point beats, with its value V; of the points that the search keeps it is the
 //!                    oldest with the best value
+//! within G V ..      a feasible point, with its value V, that no feasible point beats by more than G, which was asked for as the gap;
+//!                    a leaf is open, and all leaves are within G of that point
 //! infeasible ..      no point is feasible
 //! unbounded ..       the objective has no end, and a ray of it is held
 //! stopped WHY ..     no feasible point is better than the bound, some feasible point has the best value, and it lacked something
@@ -20,7 +22,7 @@
 //! More than 64 workers are refused (`error 08 limit 64`), and nothing changes; what an answer shows is the same for every number of them.
 //!
 //! What each command may be answered, and what a reply of each kind says for sure, is the family `searches` (specs/Family). It is
-//! lawful (`searches_law`), and a search with enough of all ends with one of the first three, or for want of memory (`complete_law`).
+//! lawful (`searches_law`), and a search with enough of all ends with one of the first four, or for want of memory (`complete_law`).
 //!
 //! Public contract in one sentence: `tell_solved` and `tell_warmed` write a reply that `solve` and `warm` may be answered
 //! (`RepliesToSolve`, `RepliesToWarm`), with the environment that stands afterwards. The commands are those of the SYMPHONY manual's

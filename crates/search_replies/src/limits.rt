@@ -19,5 +19,6 @@ pub fn limits_of(options: SearchOptions) -> Limits
         tree: NODE_LIMIT,
         workers: options.workers,
         seed: options.seed,
+        gap: options.gap,
     }
 }

@@ -1,4 +1,4 @@
--- The point and the value of an optimum are read back from its text.
+-- The point and the value of an optimum, and of a point within a gap, are read back from its text, and so is the gap.
 use Rattle.std.proofs.Common.{◌≡◌, ◌≢◌, ℕ, suc, ◌^◌, ◌<◌, Bool, true, false, List, [], ◌∷◌, ◌++◌, length, map, refl, sym, ap, ap₂, ◌∙◌, arith, append_assoc, pos, unsigned_abs, if◌then◌else◌, Some}
 use Rattle.std.specs.Prelude.{codes, nat_eq, decimal, AllPairs}
 use Rattle.std.specs.Str.{bytes_eq}
@@ -18,8 +18,8 @@ use Rattle.lp_model.specs.declared.types.Col.{Col}
 use Rattle.word_names.specs.WordNames.{HasWordNames}
 use Rattle.script_session.specs.Request.{Command}
 use Rattle.text_lines.specs.Words.{words_of, IsWord}
-use Rattle.reply_texts.specs.Texts.{column_line, column_lines, value_line, optimal_text}
-use Rattle.shell_replies.specs.Shown.{lines_shown, is_line_of, stated_number, number_in_word, or_zero, number_among, point_shown, value_shown}
+use Rattle.reply_texts.specs.Texts.{column_line, column_lines, value_line, optimal_text, within_line, within_text}
+use Rattle.shell_replies.specs.Shown.{lines_shown, is_line_of, stated_number, number_in_word, or_zero, number_among, point_shown, value_shown, gap_shown, value_within_shown}
 use Rattle.shell_replies.proofs.ShownWords.{decimal-plain, printed-plain, tested-plain, words_of-name, words_of-more, joined-one_line, lines_shown-more}
 
 -- ---- the words of the lines that are written
@@ -44,6 +44,13 @@ first_words v n = codes "optimal" ∷ printed v ∷ codes "nodes" ∷ decimal n 
 name_x : IsWord (codes "x")
 name_x = tested-plain (codes "x") (omega arith) refl
 
+-- the first line of a point within a gap
+abbrev within_words : ℚ → ℚ → ℕ → Command
+within_words g v n = codes "within" ∷ printed g ∷ printed v ∷ codes "nodes" ∷ decimal n ∷ []
+
+name_within : IsWord (codes "within")
+name_within = tested-plain (codes "within") (omega arith) refl
+
 name_optimal : IsWord (codes "optimal")
 name_optimal = tested-plain (codes "optimal") (omega arith) refl
 
@@ -53,6 +60,9 @@ name_nodes = tested-plain (codes "nodes") (omega arith) refl
 -- what is written piece by piece, with the newline behind all but what follows
 moved : (a b c d rest : List ℕ) → ((((a ++ b) ++ c) ++ d) ++ (10 ∷ [])) ++ rest ≡ a ++ ((b ++ (c ++ d)) ++ (10 ∷ rest))
 moved a b c d rest = simp append_assoc
+
+moved_more : (a b c d e f rest : List ℕ) → ((((((a ++ b) ++ c) ++ d) ++ e) ++ f) ++ (10 ∷ [])) ++ rest ≡ a ++ ((b ++ (c ++ (d ++ (e ++ f)))) ++ (10 ∷ rest))
+moved_more a b c d e f rest = simp append_assoc
 
 -- a column's line
 written : (name number rest : List ℕ) → IsWord name → IsWord number
@@ -77,6 +87,22 @@ written_first number count rest p q =
     (words_of-more (codes "optimal") inner name_optimal
     ∙ ap (λ words. codes "optimal" ∷ words) (words_of-more number last p
     ∙ ap (λ words. number ∷ words) (words_of-more (codes "nodes") count name_nodes ∙ ap (λ words. codes "nodes" ∷ words) (words_of-name count q)))))
+
+-- the first line of a point within a gap
+written_within : (gap number count rest : List ℕ) → IsWord gap → IsWord number → IsWord count
+    → lines_shown ((codes "within " ++ gap ++ codes " " ++ number ++ codes " nodes " ++ count ++ codes "\n") ++ rest) ≡ (codes "within" ∷ gap ∷ number ∷ codes "nodes" ∷ count ∷ []) ∷ lines_shown rest
+written_within gap number count rest o p q =
+    let last = codes "nodes" ++ (32 ∷ count) in
+    let second = number ++ (32 ∷ last) in
+    let inner = gap ++ (32 ∷ second) in
+    ap lines_shown (moved_more (codes "within ") gap (codes " ") number (codes " nodes ") count rest)
+    ∙ (lines_shown-more (codes "within" ++ (32 ∷ inner)) rest
+    (joined-one_line (codes "within") inner name_within (joined-one_line gap second o (joined-one_line number last p (joined-one_line (codes "nodes") count name_nodes q.one_line))))
+    ∙ ap (λ words. words ∷ lines_shown rest)
+    (words_of-more (codes "within") inner name_within
+    ∙ ap (λ words. codes "within" ∷ words) (words_of-more gap second o
+    ∙ ap (λ words. gap ∷ words) (words_of-more number last p
+    ∙ ap (λ words. number ∷ words) (words_of-more (codes "nodes") count name_nodes ∙ ap (λ words. codes "nodes" ∷ words) (words_of-name count q))))))
 
 column_shown : (name : List ℕ) (v : ℚ) (rest : List ℕ) → IsWord name → Fits v → lines_shown (column_line name v ++ rest) ≡ told_line name v ++ lines_shown rest
 column_shown name v rest p f = by (nat_eq (unsigned_abs v.num) 0)
@@ -106,6 +132,14 @@ optimum_shown M x n small p f g =
     ap lines_shown (append_assoc front (column_lines M.cols x) (codes "end\n"))
     ∙ written_first (printed (value M 1 x)) (decimal n) (column_lines M.cols x ++ codes "end\n") (printed-plain (value M 1 x) g) (decimal-plain n small)
     ∙ ap (λ lines. first_words (value M 1 x) n ∷ lines) (columns_shown M.cols x (codes "end\n") p.columns f ∙ ap (λ lines. told M.cols x ++ lines) end_shown)
+
+within_shown : (M : Program) (g : ℚ) (x : Point) (n : ℕ) → n < 2 ^ 64 → HasWordNames M → Fits g → All Fits x → Fits (value M 1 x)
+    → lines_shown (within_text M g x n) ≡ within_words g (value M 1 x) n ∷ told M.cols x ++ last_lines
+within_shown M g x n small p room f v =
+    let front = within_line g (value M 1 x) n in
+    ap lines_shown (append_assoc front (column_lines M.cols x) (codes "end\n"))
+    ∙ written_within (printed g) (printed (value M 1 x)) (decimal n) (column_lines M.cols x ++ codes "end\n") (printed-plain g room) (printed-plain (value M 1 x) v) (decimal-plain n small)
+    ∙ ap (λ lines. within_words g (value M 1 x) n ∷ lines) (columns_shown M.cols x (codes "end\n") p.columns f ∙ ap (λ lines. told M.cols x ++ lines) end_shown)
 
 -- ---- the number of a name among lines
 
@@ -193,3 +227,20 @@ pub value-shown : (M : Program) (x : Point) (n : ℕ) → n < 2 ^ 64 → length 
     → value_shown (optimal_text M x n) ≡ Some (value M 1 x)
 unfolding value_shown
 value-shown M x n small shape p distinct f g = ap (number_in_word 1) (optimum_shown M x n small p f g) ∙ ap stated_number (reading_of-printed (value M 1 x) g)
+
+-- ---- of a point within a gap, and the gap
+
+pub point-within : (M : Program) (g : ℚ) (x : Point) (n : ℕ) → n < 2 ^ 64 → length x ≡ length M.cols → HasWordNames M → AllPairs (λ a b. a ≢ b) (column_names M) → Fits g → All Fits x → Fits (value M 1 x)
+    → point_shown M (within_text M g x n) ≡ x
+unfolding point_shown
+point-within M g x n small shape p distinct room f v =
+    ap (λ (lines : List Command). map (λ c. number_among c.name lines) M.cols) (within_shown M g x n small p room f v)
+    ∙ numbers_back M.cols x last_lines shape distinct f no_number
+
+pub gap-within : (M : Program) (g : ℚ) (x : Point) (n : ℕ) → n < 2 ^ 64 → HasWordNames M → Fits g → All Fits x → Fits (value M 1 x) → gap_shown (within_text M g x n) ≡ Some g
+unfolding gap_shown
+gap-within M g x n small p room f v = ap (number_in_word 1) (within_shown M g x n small p room f v) ∙ ap stated_number (reading_of-printed g room)
+
+pub value-within : (M : Program) (g : ℚ) (x : Point) (n : ℕ) → n < 2 ^ 64 → HasWordNames M → Fits g → All Fits x → Fits (value M 1 x) → value_within_shown (within_text M g x n) ≡ Some (value M 1 x)
+unfolding value_within_shown
+value-within M g x n small p room f v = ap (number_in_word 2) (within_shown M g x n small p room f v) ∙ ap stated_number (reading_of-printed (value M 1 x) v)

@@ -47,3 +47,10 @@ point_shown M reply = map (λ c. shown_number c.name reply) M.cols
 -- the value that a reply shows: the number behind the first word of its first line
 unfoldable pub value_shown : List ℕ → Option ℚ
 value_shown reply = number_in_word 1 (lines_shown reply)
+
+-- the gap that a reply shows, and the value behind it: the numbers behind the first word of its first line
+unfoldable pub gap_shown : List ℕ → Option ℚ
+gap_shown reply = number_in_word 1 (lines_shown reply)
+
+unfoldable pub value_within_shown : List ℕ → Option ℚ
+value_within_shown reply = number_in_word 2 (lines_shown reply)

@@ -1,15 +1,15 @@
 -- A search with enough of all goes to the end.
 use Rattle.std.specs.Prelude.{◌*◌, ◌-◌, max}
-use Rattle.std.proofs.Common.{◌≡◌, ◌⊎◌, ℕ, ◌+◌, ◌<◌, ◌≤◌, ◌^◌, List, sym, subst, inl, inr, arith}
+use Rattle.std.proofs.Common.{◌≡◌, ◌⊎◌, ℕ, ◌+◌, ◌<◌, ◌≤◌, List, sym, subst, inl, inr, arith}
 use Rattle.lp_model.specs.Program.{Program}
 use Rattle.lp_model.specs.declared.types.Basis.{Basis}
 use Rattle.lp_model.specs.declared.types.CutRow.{CutRow}
 use Rattle.lp_model.specs.declared.answers.StopWhy.{StopWhy}
 use Rattle.lp_model.specs.declared.answers.StopWhy.TheVariants as stop
 use Rattle.search_answers.specs.declared.answers.Answer.{Answer}
-use Rattle.search_answers.specs.declared.answers.Answer.TheVariants.{Optimal, Infeasible, Unbounded, Stopped, Memory}
+use Rattle.search_answers.specs.declared.answers.Answer.TheVariants.{Optimal, Within, Infeasible, Unbounded, Stopped, Memory}
 use Rattle.model_points.specs.Rays.{without_costs}
-use Rattle.branch_tree.specs.Tree.{node_count, split_count}
+use Rattle.branch_tree.specs.Tree.{node_count}
 use Rattle.sound_searches.specs.Calls.{IsFresh, search_with_limit}
 use Rattle.sound_searches.specs.Sound.{PlainSearch}
 use Rattle.ray_phase.specs.Laws.{NoRayFoundLaw}
@@ -71,11 +71,19 @@ from-kept l S pool e = record {
 
 pub at-end : (S : PlainSearch) (e : Ended) (n : ℕ) (answer : Answer) → IsAtEnd e → IsAnswerAtEnd S e n answer → HasEnded answer
 at-end S ended.Finished n (Optimal v x m) h told = tt
+at-end S ended.Finished n (Within g v x m) h told = tt
 at-end S ended.Finished n (Infeasible m) h told = tt
 at-end S ended.Finished n (Unbounded m) h told = tt
 at-end S ended.Finished n (Stopped why m bound best) h told = told
 at-end S ended.Finished n Memory h told = tt
+at-end S (ended.Within g) n (Optimal v x m) h told = tt
+at-end S (ended.Within g) n (Within w v x m) h told = tt
+at-end S (ended.Within g) n (Infeasible m) h told = tt
+at-end S (ended.Within g) n (Unbounded m) h told = tt
+at-end S (ended.Within g) n (Stopped why m bound best) h told = told
+at-end S (ended.Within g) n Memory h told = tt
 at-end S ended.Unbounded n (Optimal v x m) h told = tt
+at-end S ended.Unbounded n (Within g v x m) h told = tt
 at-end S ended.Unbounded n (Infeasible m) h told = tt
 at-end S ended.Unbounded n (Unbounded m) h told = tt
 at-end S ended.Unbounded n (Stopped why m bound best) h told = told

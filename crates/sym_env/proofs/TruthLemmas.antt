@@ -1,17 +1,17 @@
 -- What a search answers is true of its model, whether it begins with a fresh root or goes on.
 use Rattle.std.proofs.Common.{◌≡◌, ◌⊎◌, ℕ, suc, ◌<◌, ◌≤◌, List, [], ◌∷◌, ◌++◌, length, map, take, drop, sym, ap, subst, refl, ◌∙◌, inl, inr, arith, Option, Some, None, Ok}
-use Rattle.std.specs.Prelude.{true, ◌-◌, All}
+use Rattle.std.specs.Prelude.{true, ◌+◌, ◌-◌, All, pos}
 use Rattle.std.specs.List.{remove}
 use Rattle.std.proofs.lemmas.List.{length-map, length-take, length-drop, length-append}
 use Rattle.std.proofs.lemmas.List.Elements.{All-head}
-use Rattle.frac128.specs.Rational.{ℚ}
-use Rattle.lp_model.specs.Program.{Program, Point, IsOptimum, IsEmpty, value, least_value}
+use Rattle.frac128.specs.Rational.{ℚ, int, ◌≤ℚ◌}
+use Rattle.lp_model.specs.Program.{Program, Point, IsOptimum, IsWithinGap, IsEmpty, value, least_value}
 use Rattle.lp_model.specs.Lawful.{IsLawful}
 use Rattle.lp_model.specs.declared.types.Basis.{Basis}
 use Rattle.lp_model.specs.declared.answers.StopWhy.{StopWhy}
 use Rattle.lp_model.specs.declared.answers.StopWhy.TheVariants as stop
 use Rattle.search_answers.specs.declared.answers.Answer.{Answer}
-use Rattle.search_answers.specs.declared.answers.Answer.TheVariants.{Optimal, Infeasible, Unbounded, Stopped, Memory}
+use Rattle.search_answers.specs.declared.answers.Answer.TheVariants.{Optimal, Within, Infeasible, Unbounded, Stopped, Memory}
 use Rattle.model_points.specs.Rays.{without_costs, IsRayJudged, IsUnbounded}
 use Rattle.model_points.proofs.UnboundedLemmas.{unbounded}
 use Rattle.ray_phase.specs.Answers.{IsRayAnswer}
@@ -32,10 +32,12 @@ use Rattle.search_counting.specs.Laws.{CapLaw, LeftLaw, TooSmallLaw}
 use Rattle.search_counting.specs.Work.{whole_points, cap_of, HasRoomFor, work_of, splits_of, IsRoomy}
 use Rattle.search_counting.proofs.CapLemmas.{splits-cap}
 use Rattle.search_counting.proofs.RoomLemmas.{room-fewer}
+use Rattle.search_gaps.specs.Within.{AreLeavesWithin}
 use Rattle.tree_search.specs.Bounds.{IsBoundOf}
+use Rattle.tree_search.specs.Within.{IsGapLimit}
 use Rattle.tree_search.specs.Causes.{HasStopCause}
 use Rattle.tree_search.specs.Laws.{StopBoundLaw}
-use Rattle.tree_search.specs.Search.{StopsFor, FindsPoint, Ends, IsLeft, IsAnswerAtEnd, IsFinishedAnswer, IsStoppedAnswer}
+use Rattle.tree_search.specs.Search.{StopsFor, FindsPoint, EndsWithin, Ends, IsLeft, IsAnswerAtEnd, IsFinishedAnswer, IsWithinAnswer, IsStoppedAnswer}
 use Rattle.tree_search.specs.Steps.{HasOpenLeaf, StepAtNext, ValueAtNext}
 use Rattle.tree_search.specs.Turns.{Order, Goes}
 use Rattle.tree_search.specs.declared.searching.Ended.{Ended}
@@ -114,6 +116,7 @@ module _ (laws : Laws) (l : Limits) (fresh : PlainSearch) (lawful : IsLawful fre
 
   stopped : (S : PlainSearch) (why : StopWhy) (n : ℕ) (answer : Answer) → S.model ≡ fresh.model → IsEarlyBy Small fresh.model l why n → IsStoppedAnswer S why n answer → IsTrueBy Small fresh.model l answer
   stopped S why n (Optimal v x m) same is told = absurd told
+  stopped S why n (Within g v x m) same is told = absurd told
   stopped S why n (Infeasible m) same is told = absurd told
   stopped S why n (Unbounded m) same is told = absurd told
   stopped S why n (Stopped reason m bound best) same is told = (
@@ -122,15 +125,40 @@ module _ (laws : Laws) (l : Limits) (fresh : PlainSearch) (lawful : IsLawful fre
   )
   stopped S why n Memory same is told = tt
 
+  -- a leaf is open yet, so that the search had not as many results as the cap
+  left-below : (n : ℕ) (S : PlainSearch) (ways : Ways) (first : Basis) → Goes ways first l.pivots (turn_order_of l) n fresh S → HasOpenLeaf S → n < cap_of fresh.model
+  left-below n S ways first goes h =
+      let most = at_most in
+      let one : 1 ≤ work_of S = laws.left S h.0 h.1.0 h.1.1.kept goes.sound (subst IsLawful (sym goes.model) lawful) h.1.1.leaf h.1.1.state in
+      let all : n + work_of S ≤ work_of fresh = goes.work in
+      omega arith
+
+  within : (S : PlainSearch) (ways : Ways) (first : Basis) (g : ℚ) (n : ℕ) (answer : Answer) → S.model ≡ fresh.model → EndsWithin ways first (turn_order_of l) l.pivots n g fresh S → n ≤ l.nodes → IsWithinAnswer S g n answer → IsTrueBy Small fresh.model l answer
+  within S ways first g n (Optimal v x m) same ends limit told = absurd told
+  within S ways first g n (Within h v x m) same ends limit told = (
+    (
+      ends.asked ∙ ap Some (sym told.0),
+      (subst (λ N. IsWithinGap N h x) same (subst (λ k. IsWithinGap S.model k x) (sym told.0) told.1.within), told.1.value ∙ ap (λ N. value N 1 x) same),
+    ),
+    (subst (λ k. k ≤ l.nodes) (sym told.2) limit, subst (λ k. k < cap_of fresh.model) (sym told.2) (left-below n S ways first ends.goes told.1.left)),
+  )
+  within S ways first g n (Infeasible m) same ends limit told = absurd told
+  within S ways first g n (Unbounded m) same ends limit told = absurd told
+  within S ways first g n (Stopped why m bound best) same ends limit told = absurd told
+  within S ways first g n Memory same ends limit told = tt
+
   searched : (S : PlainSearch) (ways : Ways) (first : Basis) (e : Ended) (n : ℕ) (answer : Answer) → S.model ≡ fresh.model → Ends ways first (turn_order_of l) l.nodes l.pivots n fresh S e → HasStopCause fresh S.cuts ways first l.nodes l.pivots e
       → n ≤ l.nodes → n ≤ cap_of fresh.model → IsAnswerAtEnd S e n answer → IsTrueBy Small fresh.model l answer
   searched S ways first ended.Finished n (Optimal v x m) same ends cause limit cap told =
       ((subst (λ N. IsOptimum N x) same told.0.optimum, told.0.value ∙ ap (λ N. value N 1 x) same), count n m told.1 limit cap)
+  searched S ways first ended.Finished n (Within g v x m) same ends cause limit cap told = absurd told
   searched S ways first ended.Finished n (Infeasible m) same ends cause limit cap told = (subst IsEmpty same told.0.none, count n m told.1 limit cap)
   searched S ways first ended.Finished n (Unbounded m) same ends cause limit cap told = absurd told
   searched S ways first ended.Finished n (Stopped why m bound best) same ends cause limit cap told = absurd told
   searched S ways first ended.Finished n Memory same ends cause limit cap told = tt
+  searched S ways first (ended.Within g) n answer same ends cause limit cap told = within S ways first g n answer same ends limit told
   searched S ways first ended.Unbounded n (Optimal v x m) same ends cause limit cap told = absurd told
+  searched S ways first ended.Unbounded n (Within g v x m) same ends cause limit cap told = absurd told
   searched S ways first ended.Unbounded n (Infeasible m) same ends cause limit cap told = absurd told
   searched S ways first ended.Unbounded n (Unbounded m) same ends cause limit cap told = (ends.unbounded, count n m told limit cap)
   searched S ways first ended.Unbounded n (Stopped why m bound best) same ends cause limit cap told = absurd told
@@ -157,6 +185,7 @@ module _ (laws : Laws) (l : Limits) (fresh : PlainSearch) (lawful : IsLawful fre
   -- an answer that is told where no leaf is open and nothing is placed
   finished : (answer : Answer) → IsFinishedAnswer fresh 0 answer → IsTrueBy Small fresh.model l answer
   finished (Optimal v x m) told = ((told.0.optimum, told.0.value), count 0 m told.1 (omega arith) (omega arith))
+  finished (Within g v x m) told = absurd told
   finished (Infeasible m) told = (told.0.none, count 0 m told.1 (omega arith) (omega arith))
   finished (Unbounded m) told = absurd told
   finished (Stopped why m bound best) told = absurd told
@@ -202,7 +231,12 @@ true-kept laws l old answer S lawful sound how =
 pub told-oldest : (S : PlainSearch) (e : Ended) (n : ℕ) (answer : Answer) → IsAnswerAtEnd S e n answer → IsOldest S answer
 told-oldest S ended.Finished n (Optimal v x m) told = told.0.incumbent
 told-oldest S ended.Unbounded n (Optimal v x m) told = absurd told
+told-oldest S (ended.Within g) n (Optimal v x m) told = absurd told
 told-oldest S (ended.Stopped why) n (Optimal v x m) told = absurd told
+told-oldest S ended.Finished n (Within h v x m) told = absurd told
+told-oldest S ended.Unbounded n (Within h v x m) told = absurd told
+told-oldest S (ended.Within g) n (Within h v x m) told = told.1.incumbent
+told-oldest S (ended.Stopped why) n (Within h v x m) told = absurd told
 told-oldest S e n (Infeasible m) told = tt
 told-oldest S e n (Unbounded m) told = tt
 told-oldest S e n (Stopped why m bound best) told = tt
@@ -210,6 +244,7 @@ told-oldest S e n Memory told = tt
 
 stop-oldest : (S : PlainSearch) (why : StopWhy) (answer : Answer) → IsStoppedAnswer S why 0 answer → IsOldest S answer
 stop-oldest S why (Optimal v x m) told = absurd told
+stop-oldest S why (Within g v x m) told = absurd told
 stop-oldest S why (Infeasible m) told = tt
 stop-oldest S why (Unbounded m) told = tt
 stop-oldest S why (Stopped reason m bound best) told = tt
@@ -255,6 +290,7 @@ points-some ways first order nodes pivots n old new finds =
 
 abbrev pub IsFinishedKind : Answer → Type 0
 IsFinishedKind (Optimal v x n) = Unit {0}
+IsFinishedKind (Within g v x n) = ⊥
 IsFinishedKind (Infeasible n) = Unit {0}
 IsFinishedKind (Unbounded n) = ⊥
 IsFinishedKind (Stopped why n bound best) = ⊥
@@ -263,11 +299,19 @@ IsFinishedKind Memory = ⊥
 finished-left : (S : PlainSearch) (e : Ended) (n : ℕ) (answer : Answer) → IsLeft S e → IsAnswerAtEnd S e n answer → IsFinishedKind answer → HasNoOpenLeaf S
 finished-left S ended.Finished n answer left told kind = left
 finished-left S ended.Unbounded n (Optimal v x m) left told kind = absurd told
+finished-left S ended.Unbounded n (Within g v x m) left told kind = absurd kind
 finished-left S ended.Unbounded n (Infeasible m) left told kind = absurd told
 finished-left S ended.Unbounded n (Unbounded m) left told kind = absurd kind
 finished-left S ended.Unbounded n (Stopped why m bound best) left told kind = absurd kind
 finished-left S ended.Unbounded n Memory left told kind = absurd kind
+finished-left S (ended.Within g) n (Optimal v x m) left told kind = absurd told
+finished-left S (ended.Within g) n (Within h v x m) left told kind = absurd kind
+finished-left S (ended.Within g) n (Infeasible m) left told kind = absurd told
+finished-left S (ended.Within g) n (Unbounded m) left told kind = absurd kind
+finished-left S (ended.Within g) n (Stopped why m bound best) left told kind = absurd kind
+finished-left S (ended.Within g) n Memory left told kind = absurd kind
 finished-left S (ended.Stopped why) n (Optimal v x m) left told kind = absurd told
+finished-left S (ended.Stopped why) n (Within g v x m) left told kind = absurd kind
 finished-left S (ended.Stopped why) n (Infeasible m) left told kind = absurd told
 finished-left S (ended.Stopped why) n (Unbounded m) left told kind = absurd kind
 finished-left S (ended.Stopped why) n (Stopped reason m bound best) left told kind = absurd kind
@@ -275,6 +319,7 @@ finished-left S (ended.Stopped why) n Memory left told kind = absurd kind
 
 stop-kind : (S : PlainSearch) (why : StopWhy) (answer : Answer) → IsStoppedAnswer S why 0 answer → IsFinishedKind answer → ⊥
 stop-kind S why (Optimal v x m) told kind = told
+stop-kind S why (Within g v x m) told kind = kind
 stop-kind S why (Infeasible m) told kind = told
 stop-kind S why (Unbounded m) told kind = kind
 stop-kind S why (Stopped reason m bound best) told kind = kind
@@ -282,22 +327,87 @@ stop-kind S why Memory told kind = kind
 
 pub stop-bounded : (S : PlainSearch) (why : StopWhy) (answer : Answer) (n : ℕ) → IsStoppedAnswer S why n answer → SaysUnbounded answer → ⊥
 stop-bounded S why (Optimal v x m) n told u = u
+stop-bounded S why (Within g v x m) n told u = u
 stop-bounded S why (Infeasible m) n told u = u
 stop-bounded S why (Unbounded m) n told u = told
 stop-bounded S why (Stopped reason m bound best) n told u = u
 stop-bounded S why Memory n told u = u
 
+within-bounded : (S : PlainSearch) (g : ℚ) (answer : Answer) (n : ℕ) → IsWithinAnswer S g n answer → SaysUnbounded answer → ⊥
+within-bounded S g (Optimal v x m) n told u = u
+within-bounded S g (Within h v x m) n told u = u
+within-bounded S g (Infeasible m) n told u = u
+within-bounded S g (Unbounded m) n told u = told
+within-bounded S g (Stopped reason m bound best) n told u = u
+within-bounded S g Memory n told u = u
+
 -- only a search that found a point beside a ray shows that the model is unbounded
 pub unbounded-ended : (S : PlainSearch) (e : Ended) (n : ℕ) (answer : Answer) → IsAnswerAtEnd S e n answer → SaysUnbounded answer → e ≡ ended.Unbounded
 unbounded-ended S ended.Finished n (Optimal v x m) told u = absurd u
+unbounded-ended S ended.Finished n (Within g v x m) told u = absurd u
 unbounded-ended S ended.Finished n (Infeasible m) told u = absurd u
 unbounded-ended S ended.Finished n (Unbounded m) told u = absurd told
 unbounded-ended S ended.Finished n (Stopped why m bound best) told u = absurd u
 unbounded-ended S ended.Finished n Memory told u = absurd u
+unbounded-ended S (ended.Within g) n answer told u = absurd (within-bounded S g answer n told u)
 unbounded-ended S ended.Unbounded n answer told u = refl
 unbounded-ended S (ended.Stopped why) n answer told u = absurd (stop-bounded S why answer n told u)
 
+-- an answer within a gap: this gap was given, and all leaves are within it
+abbrev pub HasGap : Limits → PlainSearch → Answer → Type 0
+HasGap l S (Optimal v x n) = Unit {0}
+HasGap l S (Within g v x n) = (l.gap ≡ Some g) × AreLeavesWithin S g
+HasGap l S (Infeasible n) = Unit {0}
+HasGap l S (Unbounded n) = Unit {0}
+HasGap l S (Stopped why n bound best) = Unit {0}
+HasGap l S Memory = Unit {0}
+
+stop-gap : (l : Limits) (S : PlainSearch) (why : StopWhy) (answer : Answer) (n : ℕ) → IsStoppedAnswer S why n answer → HasGap l S answer
+stop-gap l S why (Optimal v x m) n told = tt
+stop-gap l S why (Within g v x m) n told = absurd told
+stop-gap l S why (Infeasible m) n told = tt
+stop-gap l S why (Unbounded m) n told = tt
+stop-gap l S why (Stopped reason m bound best) n told = tt
+stop-gap l S why Memory n told = tt
+
+pub finished-gap : (l : Limits) (S : PlainSearch) (answer : Answer) (n : ℕ) → IsFinishedAnswer S n answer → HasGap l S answer
+finished-gap l S (Optimal v x m) n told = tt
+finished-gap l S (Within g v x m) n told = absurd told
+finished-gap l S (Infeasible m) n told = tt
+finished-gap l S (Unbounded m) n told = tt
+finished-gap l S (Stopped why m bound best) n told = tt
+finished-gap l S Memory n told = tt
+
+unbounded-gap : (l : Limits) (S : PlainSearch) (answer : Answer) (n : ℕ) → IsAnswerAtEnd S ended.Unbounded n answer → HasGap l S answer
+unbounded-gap l S (Optimal v x m) n told = tt
+unbounded-gap l S (Within g v x m) n told = absurd told
+unbounded-gap l S (Infeasible m) n told = tt
+unbounded-gap l S (Unbounded m) n told = tt
+unbounded-gap l S (Stopped why m bound best) n told = tt
+unbounded-gap l S Memory n told = tt
+
+within-gap : (l : Limits) (S : PlainSearch) (g : ℚ) (answer : Answer) (n : ℕ) → l.gap ≡ Some g → AreLeavesWithin S g → IsWithinAnswer S g n answer → HasGap l S answer
+within-gap l S g (Optimal v x m) n asked close told = tt
+within-gap l S g (Within h v x m) n asked close told = (asked ∙ ap Some (sym told.0), subst (AreLeavesWithin S) (sym told.0) close)
+within-gap l S g (Infeasible m) n asked close told = tt
+within-gap l S g (Unbounded m) n asked close told = tt
+within-gap l S g (Stopped why m bound best) n asked close told = tt
+within-gap l S g Memory n asked close told = tt
+
+ended-gap : (l : Limits) (ways : Ways) (first : Basis) (fresh S : PlainSearch) (e : Ended) (n : ℕ) (answer : Answer) → Ends ways first (turn_order_of l) l.nodes l.pivots n fresh S e → IsLeft S e → IsAnswerAtEnd S e n answer → HasGap l S answer
+ended-gap l ways first fresh S ended.Finished n answer ends left told = finished-gap l S answer n told
+ended-gap l ways first fresh S (ended.Within g) n answer ends left told = within-gap l S g answer n ends.asked left.1 told
+ended-gap l ways first fresh S ended.Unbounded n answer ends left told = unbounded-gap l S answer n told
+ended-gap l ways first fresh S (ended.Stopped why) n answer ends left told = stop-gap l S why answer n told
+
 module _ (M : Program) (l : Limits) (fresh : PlainSearch) (answer : Answer) (S : PlainSearch) where
+  pub course-gap : Course M l fresh answer S → HasGap l S answer
+  course-gap (NothingOpen none kept is) = subst (HasGap l S) (sym is) tt
+  course-gap (StopsFirst some why s kept told) = stop-gap l S why answer 0 told
+  course-gap (Searches some ways first b e finds told) = ended-gap l ways first fresh S e.ended e.results answer finds.ends finds.left told
+  course-gap (WantsBefore kept is) = subst (HasGap l S) (sym is) tt
+  course-gap (WantsWithin ways first b gives is) = subst (HasGap l S) (sym is) tt
+
   pub course-finished : Course M l fresh answer S → IsFinishedKind answer → HasNoOpenLeaf S
   course-finished (NothingOpen none kept is) kind = subst HasNoOpenLeaf (sym kept) none
   course-finished (StopsFirst some why s kept told) kind = absurd (stop-kind S why answer told kind)
@@ -313,22 +423,28 @@ module _ (M : Program) (l : Limits) (fresh : PlainSearch) (answer : Answer) (S :
   course-points (WantsBefore kept is) u = absurd (subst SaysUnbounded is u)
   course-points (WantsWithin ways first b gives is) u = absurd (subst SaysUnbounded is u)
 
-pub held-so : (S : PlainSearch) (answer : Answer) (direction : Option Point) → (IsFinishedKind answer → HasNoOpenLeaf S) → (SaysUnbounded answer → (d : Point) → direction ≡ Some d → HasPointAndRay S d) → IsHeld (Some S) (held_by answer direction)
-held-so S (Optimal v x n) direction closed beside = closed tt
-held-so S (Infeasible n) direction closed beside = closed tt
-held-so S (Unbounded n) (Some d) closed beside = beside tt d refl
-held-so S (Unbounded n) None closed beside = tt
-held-so S (Stopped why n bound best) direction closed beside = tt
-held-so S Memory direction closed beside = tt
+-- a gap that was given is at least 0
+gap-lawful : (gap : Option ℚ) (g : ℚ) → IsGapLimit gap → gap ≡ Some g → int (pos 0) ≤ℚ g
+gap-lawful gap g lawful is = subst IsGapLimit is lawful
 
-pub solves-held : (M : Program) (l : Limits) (old : PlainSearch) (answer : Answer) (direction : Option Point) (S : PlainSearch) → SolvesModel M l old answer S → HasRayFor M l.pivots answer direction → IsHeld (Some S) (held_by answer direction)
-solves-held M l old answer direction S (inl s) has =
-    held-so S answer direction (course-finished M l s.fresh answer S s.course)
+pub held-so : (l : Limits) → IsGapLimit l.gap → (S : PlainSearch) (answer : Answer) (direction : Option Point) → (IsFinishedKind answer → HasNoOpenLeaf S) → (SaysUnbounded answer → (d : Point) → direction ≡ Some d → HasPointAndRay S d) → HasGap l S answer → IsHeld (Some S) (held_by answer direction)
+held-so l lawful S (Optimal v x n) direction closed beside gap = closed tt
+held-so l lawful S (Within g v x n) direction closed beside gap = (gap-lawful l.gap g lawful gap.0, gap.1)
+held-so l lawful S (Infeasible n) direction closed beside gap = closed tt
+held-so l lawful S (Unbounded n) (Some d) closed beside gap = beside tt d refl
+held-so l lawful S (Unbounded n) None closed beside gap = tt
+held-so l lawful S (Stopped why n bound best) direction closed beside gap = tt
+held-so l lawful S Memory direction closed beside gap = tt
+
+pub solves-held : (M : Program) (l : Limits) → IsGapLimit l.gap → (old : PlainSearch) (answer : Answer) (direction : Option Point) (S : PlainSearch) → SolvesModel M l old answer S → HasRayFor M l.pivots answer direction → IsHeld (Some S) (held_by answer direction)
+solves-held M l lawful old answer direction S (inl s) has =
+    held-so l lawful S answer direction (course-finished M l s.fresh answer S s.course)
     (λ u d is. record {
       point = course-points M l s.fresh answer S s.course u;
       is_ray = subst (λ N. IsRayJudged N d (Ok true)) (sym s.model) (judged_ray M l.pivots d (subst (HasRayFor M l.pivots answer) is has));
     })
-solves-held M l old answer direction S (inr wants) has = subst (λ a. IsHeld (Some S) (held_by a direction)) (sym wants.wants) tt
+    (course-gap M l s.fresh answer S s.course)
+solves-held M l lawful old answer direction S (inr wants) has = subst (λ a. IsHeld (Some S) (held_by a direction)) (sym wants.wants) tt
 
 pub solves-env : (l : Limits) (old new : PlainEnv) (S T : PlainSearch) (answer : Answer) (direction : Option Point) → old.search ≡ Some S → SolvesFrom l S answer T → HasRayFrom l S answer direction → new ≡ with_answer T (held_by answer direction)
     → WorksEnv (SolvesFrom l) (HasRayFrom l) old.search old (Ok answer) new

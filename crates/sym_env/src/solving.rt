@@ -10,6 +10,7 @@ ghost use Rattle.tree_search.specs.Enough.{IsEnough, IsEnoughFrom};
 ghost use Rattle.tree_search.specs.Solves.{Solved, SolvesModel, SaysUnbounded, HasRayFor};
 ghost use Rattle.tree_search.specs.Truth.{IsTrueAnswer, HasEnded};
 ghost use Rattle.tree_search.specs.Warm.{Went};
+ghost use Rattle.tree_search.specs.Within.{IsGapLimit};
 
 use lp_model::{Basis, Model, Point};
 use ray_phase::{Beginning, find_beginning, no_ray_law, root_law};
@@ -38,6 +39,7 @@ fn search_through(
     limits: &Limits,
 ) -> (Search, Answer)
     requires idle { manager.held ≡ replicate limits.now.workers None }
+    requires gap { IsGapLimit limits.now.gap }
     requires sound { IsSound manager.search }
     requires some { HasOpenLeaf manager.search }
     requires begins { BeginsWith manager.search.model limits.now.pivots ways.now first.now }
@@ -67,6 +69,7 @@ fn search_with(
     limits: &Limits,
 ) -> (Search, Answer)
     requires workers { 1 ≤ limits.now.workers }
+    requires gap { IsGapLimit limits.now.gap }
     requires some { HasOpenLeaf search }
     requires begins { BeginsWith search.model limits.now.pivots ways.now first.now }
     requires ways { IsWayFor search ways.now }
@@ -90,6 +93,7 @@ pub(crate) fn search_own(
     limits: &Limits,
 ) -> (Search, Answer)
     requires workers { 1 ≤ limits.now.workers }
+    requires gap { IsGapLimit limits.now.gap }
     requires some { HasOpenLeaf search }
     requires begins { BeginsWith search.model limits.now.pivots Own first }
     ensures went { Went limits.now search result.1 result.0 }
@@ -111,6 +115,7 @@ fn search_beside_ray(
     limits: &Limits,
 ) -> (Search, Answer)
     requires workers { 1 ≤ limits.now.workers }
+    requires gap { IsGapLimit limits.now.gap }
     requires some { HasOpenLeaf search }
     requires none { search.points ≡ [] }
     requires begins { BeginsBeside search.model limits.now.pivots costless first }
@@ -127,6 +132,7 @@ fn search_beside_ray(
 /// Goes on with a search that has an open leaf and keeps no point.
 pub(crate) fn search_without_point(alloc: Global, search: Search, limits: &Limits) -> Solution
     requires workers { 1 ≤ limits.now.workers }
+    requires gap { IsGapLimit limits.now.gap }
     requires some { HasOpenLeaf search }
     requires none { search.points ≡ [] }
     ensures went { Went limits.now search result.answer result.search }
@@ -170,6 +176,7 @@ pub(crate) fn search_without_point(alloc: Global, search: Search, limits: &Limit
 /// Solves a search of one leaf.
 fn solve_fresh(alloc: Global, search: Search, limits: &Limits) -> Solution
     requires workers { 1 ≤ limits.now.workers }
+    requires gap { IsGapLimit limits.now.gap }
     requires fresh { IsFresh search.model limits.now.tree search }
     ensures solved { Solved search.model limits.now result.answer result.search }
     ensures ray { HasRayFor search.model limits.now.pivots result.answer result.ray }
@@ -191,6 +198,7 @@ fn solve_fresh(alloc: Global, search: Search, limits: &Limits) -> Solution
 /// Solves the search's model from a fresh leaf on. Where there is no memory for it the search stays, with the new limit.
 fn solve_again(alloc: Global, mut search: Search, limits: &Limits) -> Solution
     requires workers { 1 ≤ limits.now.workers }
+    requires gap { IsGapLimit limits.now.gap }
     ensures solves { SolvesModel search.model limits.now search result.answer result.search }
     ensures ray { HasRayFor search.model limits.now.pivots result.answer result.ray }
     ensures complete { IsEnough search.model result.search.cuts limits.now → HasEnded result.answer }
@@ -209,6 +217,7 @@ fn solve_again(alloc: Global, mut search: Search, limits: &Limits) -> Solution
 /// Solves the search's model. What is answered is true of it.
 pub(crate) fn solve_search(alloc: Global, search: Search, limits: &Limits) -> Solution
     requires workers { 1 ≤ limits.now.workers }
+    requires gap { IsGapLimit limits.now.gap }
     ensures solves { SolvesModel search.model limits.now search result.answer result.search }
     ensures ray { HasRayFor search.model limits.now.pivots result.answer result.ray }
     ensures complete { IsEnough search.model result.search.cuts limits.now → HasEnded result.answer }

@@ -8,6 +8,7 @@ ghost use Rattle.tree_search.specs.Solves.{HasRayFor};
 ghost use Rattle.tree_search.specs.Truth.{IsTrueOfKept, HasEnded};
 ghost use Rattle.tree_search.specs.Warm.{Resumes, Warms};
 ghost use Rattle.tree_search.specs.Extends.{Extends};
+ghost use Rattle.tree_search.specs.Within.{IsGapLimit};
 
 use crate::solving::{Solution, search_own, search_without_point};
 use dual_simplex::slack_basis;
@@ -23,6 +24,7 @@ use tree_search::{Limits, finished, stop_bound_law, stopped};
 /// Goes on where the slack state is not lawful and a point is kept: beside a ray the objective has no end.
 fn resume_by_ray_phase(alloc: Global, search: Search, limits: &Limits) -> Solution
     requires workers { 1 ≤ limits.now.workers }
+    requires gap { IsGapLimit limits.now.gap }
     requires some { HasOpenLeaf search }
     requires point { 0 < length search.points }
     requires none { HasNoSlackBasis search.model }
@@ -74,6 +76,7 @@ fn resume_by_ray_phase(alloc: Global, search: Search, limits: &Limits) -> Soluti
 /// Goes on with a search that has an open leaf and keeps a point.
 fn resume_with_point(alloc: Global, search: Search, limits: &Limits) -> Solution
     requires workers { 1 ≤ limits.now.workers }
+    requires gap { IsGapLimit limits.now.gap }
     requires some { HasOpenLeaf search }
     requires point { 0 < length search.points }
     ensures resumes { Resumes limits.now search result.answer result.search }
@@ -104,6 +107,7 @@ fn resume_with_point(alloc: Global, search: Search, limits: &Limits) -> Solution
 /// Goes on with a search that has an open leaf.
 fn resume(alloc: Global, search: Search, limits: &Limits) -> Solution
     requires workers { 1 ≤ limits.now.workers }
+    requires gap { IsGapLimit limits.now.gap }
     requires some { HasOpenLeaf search }
     ensures resumes { Resumes limits.now search result.answer result.search }
     ensures model { result.search.model ≡ search.model }
@@ -120,6 +124,7 @@ fn resume(alloc: Global, search: Search, limits: &Limits) -> Solution
 /// Goes on with a search, or answers again what it has shown where no leaf is open.
 fn warm_limited(alloc: Global, search: Search, limits: &Limits) -> Solution
     requires workers { 1 ≤ limits.now.workers }
+    requires gap { IsGapLimit limits.now.gap }
     ensures warms { Warms limits.now search result.answer result.search }
     ensures model { result.search.model ≡ search.model }
     ensures extends { Extends search.tree.root result.search.tree.root }
@@ -143,6 +148,7 @@ fn warm_limited(alloc: Global, search: Search, limits: &Limits) -> Solution
 /// Goes on with the search. What is answered is true of its model.
 pub(crate) fn warm_search(alloc: Global, mut search: Search, limits: &Limits) -> Solution
     requires workers { 1 ≤ limits.now.workers }
+    requires gap { IsGapLimit limits.now.gap }
     ensures warms { Warms limits.now (search_with_limit search limits.now.tree) result.answer result.search }
     ensures model { result.search.model ≡ search.model }
     ensures extends { Extends search.tree.root result.search.tree.root }

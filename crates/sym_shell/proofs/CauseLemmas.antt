@@ -34,6 +34,7 @@ step-causes old words reply new h =
       complete = λ S options few asked present enough. ends.complete S options few (subst (λ a. AnswersTo a old reply new) asked h) present enough;
       complete_warm = λ S options few asked present enough. ends.complete_warm S options few (subst (λ a. AnswersTo a old reply new) asked h) present enough;
       again = λ S options few asked present. ends.again S options few (subst (λ a. AnswersTo a old reply new) asked h) present;
+      again_within = λ S options few asked present. ends.again_within S options few (subst (λ a. AnswersTo a old reply new) asked h) present;
       beside_ray = λ S options few asked present. ends.beside_ray S options few (subst (λ a. AnswersTo a old reply new) asked h) present;
       complete_front = λ S nodes pivots n asked present enough. fronts.complete S nodes pivots n (subst (λ a. AnswersTo a old reply new) asked h) present enough;
       beside_front = λ nodes pivots asked. fronts.beside nodes pivots (subst (λ a. AnswersTo a old reply new) asked h);

@@ -1,7 +1,7 @@
 -- What each family says of its replies is what the product promises.
 use Rattle.std.proofs.Common.{◌≡◌, ℕ, List, inl, inr}
 use Rattle.command_words.specs.Asks.{Asks, Load, Solve, Warm, McSolve, Edit, Trim, Save, Restore, Bound, Cert, Write, Quit, Unknown, Misused, NoNumber, asks_of}
-use Rattle.command_family.specs.Kinds.{Kind, Optimal, Infeasible, Unbounded, StoppedNodes, StoppedTree, StoppedPivots, StoppedWide, CompleteFront, FrontPart, BoundShown, Done, UnknownCommand, WrongArguments, NoModel, UnknownName, TakenName, WrongNumber, OverLimit, NoBounds, BadSides, NotWhole, NoAnswer, StoreFailed, FileTooLong, FaultyText, FaultySearch, WantsMemory}
+use Rattle.command_family.specs.Kinds.{Kind, Optimal, Within, Infeasible, Unbounded, StoppedNodes, StoppedTree, StoppedPivots, StoppedWide, CompleteFront, FrontPart, BoundShown, Done, UnknownCommand, WrongArguments, NoModel, UnknownName, TakenName, WrongNumber, OverLimit, NoBounds, BadSides, NotWhole, NoAnswer, StoreFailed, FileTooLong, FaultyText, FaultySearch, WantsMemory}
 use Rattle.command_family.specs.State.{ShellState}
 use Rattle.file_commands.specs.Family.{FileAsks, FileCause}
 use Rattle.file_commands.specs.Family as files
@@ -28,6 +28,7 @@ is_asked command words P asks asked h = record { asks = asks; asked = asked; is 
 module _ (old : ShellState) (words : List (List ℕ)) (reply : List ℕ) (new : ShellState) where
   search-promise : (asks : SearchAsks) → asks_of words ≡ searching asks → (k : Kind) → SearchCause asks k old reply new → Promise k old words reply new
   search-promise asks asked Optimal h = is_asked searching words (λ a. SearchCause a Optimal old reply new) asks asked h
+  search-promise asks asked Within h = is_asked searching words (λ a. SearchCause a Within old reply new) asks asked h
   search-promise asks asked Infeasible h = inl (is_asked searching words (λ a. SearchCause a Infeasible old reply new) asks asked h)
   search-promise asks asked Unbounded h = is_asked searching words (λ a. SearchCause a Unbounded old reply new) asks asked h
   search-promise asks asked StoppedNodes h = is_asked searching words (λ a. SearchCause a StoppedNodes old reply new) asks asked h

@@ -1,9 +1,11 @@
 -- Steps of the shell, from what the calls of the families answer.
-use Rattle.std.proofs.Common.{◌≡◌, ℕ, ◌≤◌, List, refl, sym, subst, Option, Result, Ok, Err}
+use Rattle.std.proofs.Common.{◌≡◌, ℕ, ◌≤◌, List, refl, sym, subst, Option, Some, None, Result, Ok, Err}
 use Rattle.std.specs.Prelude.{OnOk, OnErr}
+use Rattle.frac128.specs.Rational.{ℚ}
 use Rattle.sym_io.specs.Files.{Files}
 use Rattle.kept_env.specs.Env.{PlainEnv}
-use Rattle.command_words.specs.Asks.{Asks, asks_of}
+use Rattle.command_words.specs.Asks.{Asks, asks_of, IsGapAskable}
+use Rattle.tree_search.specs.Within.{IsGapLimit}
 use Rattle.edit_words.specs.EditWords.{EditAsks}
 use Rattle.command_family.specs.State.{ShellState, shell_state}
 use Rattle.edit_commands.specs.Editing.{RepliesToWords, EditStep}
@@ -32,6 +34,11 @@ edit-step old new files faults asks reply edits = record { files = refl; faults 
 
 pub trim-step : (old new : PlainEnv) (files : Option Files) (faults : ℕ) (depth : ℕ) (reply : List ℕ) → RepliesToTrim old.search depth old reply new → TrimStep (shell_state old files faults) depth reply (shell_state new files faults)
 trim-step old new files faults depth reply trims = record { files = refl; faults = refl; answer = trims }
+
+-- a gap that a line may name is one that a search may have
+pub gap-limit : (gap : Option ℚ) → IsGapAskable gap → IsGapLimit gap
+gap-limit None h = h
+gap-limit (Some g) h = h
 
 -- no count of faults falls, whether the reply was made whole or not
 pub answered-later : {E : Type 0} (r : Result (Unit {0}) E) (asks : Asks) (old new : ShellState) (reply : List ℕ) → Tells r (λ x. AnswersTo asks old x new) reply → old.faults ≤ new.faults

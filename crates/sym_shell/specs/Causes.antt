@@ -17,7 +17,7 @@ use Rattle.bound_commands.specs.Bounding.{IsAtOptimum}
 use Rattle.search_replies.specs.Showing.{EndsBy}
 use Rattle.search_replies.specs.Workers.{worker_limit}
 use Rattle.search_replies.specs.Solve.{limits_of}
-use Rattle.search_replies.specs.Warming.{WentOn, TellsAgain, TellsNoEnd}
+use Rattle.search_replies.specs.Warming.{WentOn, TellsAgain, TellsNoEnd, TellsWithinAgain}
 use Rattle.front_search.specs.Completeness.{IsFrontEnough}
 use Rattle.front_commands.specs.Answering.{front_limits}
 use Rattle.front_commands.specs.Fronts.{EndsFront}
@@ -48,6 +48,8 @@ pub record HasCauses (old : ShellState) (words : List (List ℕ)) (reply : List 
       → EndsBy (WentOn S (limits_of options)) S.model (limits_of options) reply new.env
   -- `warm` after a search that closed every leaf places no result
   pub again : (S : PlainSearch) (options : SearchOptions) → options.workers ≤ worker_limit → asks_of words ≡ Warm options → old.env.search ≡ Some S → TellsAgain S reply
+  -- nor does it with a gap within which the search that is kept is
+  pub again_within : (S : PlainSearch) (options : SearchOptions) → options.workers ≤ worker_limit → asks_of words ≡ Warm options → old.env.search ≡ Some S → TellsWithinAgain S (limits_of options) reply
   -- where its ray phase finds a ray beside a kept point, the objective has no end, and `warm` places no result
   pub beside_ray : (S : PlainSearch) (options : SearchOptions) → options.workers ≤ worker_limit → asks_of words ≡ Warm options → old.env.search ≡ Some S → TellsNoEnd S (limits_of options) reply
   -- completeness of `mcsolve`: where the limits are enough for each part that is due when at most n results are placed, it ends with a whole front,
@@ -73,7 +75,8 @@ pub record IsAnswered (old : ShellState) (words : List (List ℕ)) (reply : List
   pub causes : HasCauses old words reply new
   -- cuts count exactly where they derive, leaves are judged by such cuts, points are feasible
   pub sound : HasSoundSearch new.env
-  -- an answer is held only of a search without an open leaf, or of one with a point beside a ray, or by a certificate that the checker accepts
+  -- an answer is held only of a search without an open leaf, or of one within a gap, or of one with a point beside a ray, or by a certificate
+  -- that the checker accepts
   pub held : IsEnv new.env
   -- the model, if there is one, is one that scripts may have: its names are words, its bounds are near, and it is not widened
   pub script : HasScriptModel new.env

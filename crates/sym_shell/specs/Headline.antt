@@ -5,7 +5,7 @@
 -- They speak of what the line asks, of the state before and after, and of the reply's bytes.
 use Rattle.std.specs.Prelude.{◌≡◌, ◌⊎◌, ℕ, List}
 use Rattle.reply_texts.specs.Texts.{memory_text}
-use Rattle.command_family.specs.Kinds.{Kind, Optimal, Infeasible, Unbounded, StoppedNodes, StoppedTree, StoppedPivots, StoppedWide, CompleteFront, FrontPart, BoundShown, Done, UnknownCommand, WrongArguments, NoModel, UnknownName, TakenName, WrongNumber, OverLimit, NoBounds, BadSides, NotWhole, NoAnswer, StoreFailed, FileTooLong, FaultyText, FaultySearch, WantsMemory, Is}
+use Rattle.command_family.specs.Kinds.{Kind, Optimal, Within, Infeasible, Unbounded, StoppedNodes, StoppedTree, StoppedPivots, StoppedWide, CompleteFront, FrontPart, BoundShown, Done, UnknownCommand, WrongArguments, NoModel, UnknownName, TakenName, WrongNumber, OverLimit, NoBounds, BadSides, NotWhole, NoAnswer, StoreFailed, FileTooLong, FaultyText, FaultySearch, WantsMemory, Is}
 use Rattle.command_family.specs.State.{ShellState}
 use Rattle.file_commands.specs.Family.{FileCause}
 use Rattle.edit_commands.specs.Family.{ChangeCause}
@@ -49,9 +49,11 @@ ByRest kind old words reply new = IsAsked remaining words (λ asks. OwnCause ask
 -- ---- what a reply of each kind says for sure
 
 abbrev pub Promise : Kind → ShellState → List (List ℕ) → List ℕ → ShellState → Type 0
--- The headline: the point that is shown is an optimum of the model that is present, as it was edited, with its value (ShowsOptimumBy); or that
+-- The headline: the point that is shown is an optimum of the model that is present, as it was edited, with its value (ShowsOptimumBy), or no
+-- feasible point beats it by more than the gap that is shown (ShowsWithinBy); or that
 -- model has no feasible point (ShowsEmptinessBy, ShowsNoFront); or its objective has no end (ShowsNoEndBy).
 Promise Optimal old words reply new = BySearch Optimal old words reply new
+Promise Within old words reply new = BySearch Within old words reply new
 Promise Infeasible old words reply new = BySearch Infeasible old words reply new ⊎ ByFront Infeasible old words reply new
 Promise Unbounded old words reply new = BySearch Unbounded old words reply new
 -- what is known where a search stopped, and why it stopped: no feasible point is better than the bound that is told, and some feasible point has

@@ -13,7 +13,8 @@
 //! ```
 //!
 //! `Step` fixes each reply's bytes and the state that it leaves (the environment, the files, the store's count of faults). What a reply says for
-//! sure, and with it the headline, is `HasCauses`: `optimal` shows a feasible point that no feasible point beats, `infeasible` means that
+//! sure, and with it the headline, is `HasCauses`: `optimal` or `within G`
+//! shows a feasible point that no feasible point beats by more than 0 or G, `infeasible` means that
 //! there is none, `unbounded` that the objective has no end, `frontier complete` shows exactly the outcomes that no other dominates, no feasible point passes the bound of a search that stopped, nor a bound at
 //! other sides or costs, the certificate that was written is accepted for the model, what was written of a model is its canonical
 //! text, what was saved is the text of the search, and a search that is restored is made of what the file's text states, its cuts derived

@@ -1,6 +1,7 @@
 // The commands that search, and the one that looks for fronts: the search is made, and told.
 ghost use Rattle.std.specs.Prelude.{◌≡◌, ◌≤◌, [], OnOk, OnErr, ℕ, List, IfSome};
 ghost use Rattle.branch_tree.specs.Numbered.{IsNumbered};
+ghost use Rattle.command_words.specs.Asks.{IsGapAskable};
 ghost use Rattle.command_family.specs.State.{HasScriptModel, HasOrder};
 ghost use Rattle.search_replies.specs.Workers.{Staffed};
 ghost use Rattle.search_replies.specs.Solve.{limits_of, RepliesToSolve};
@@ -24,6 +25,7 @@ fn work_anew(
     reply: &mut Vec<u8>,
 ) -> Result<(), AllocError>
     requires workers { 1 ≤ options.workers }
+    requires gap { IsGapAskable options.gap }
     requires empty { reply.old.items ≡ [] }
     requires script { HasScriptModel env.old }
     requires order { HasOrder env.old }
@@ -56,6 +58,7 @@ fn work_on(
     reply: &mut Vec<u8>,
 ) -> Result<(), AllocError>
     requires workers { 1 ≤ options.workers }
+    requires gap { IsGapAskable options.gap }
     requires empty { reply.old.items ≡ [] }
     requires script { HasScriptModel env.old }
     requires order { HasOrder env.old }
@@ -77,6 +80,7 @@ pub(crate) fn search_anew(
     reply: &mut Vec<u8>,
 ) -> Result<(), AllocError>
     requires workers { 1 ≤ options.workers }
+    requires gap { IsGapAskable options.gap }
     requires empty { reply.old.items ≡ [] }
     requires script { HasScriptModel env.old }
     requires order { HasOrder env.old }
@@ -101,6 +105,7 @@ pub(crate) fn search_on(
     reply: &mut Vec<u8>,
 ) -> Result<(), AllocError>
     requires workers { 1 ≤ options.workers }
+    requires gap { IsGapAskable options.gap }
     requires empty { reply.old.items ≡ [] }
     requires script { HasScriptModel env.old }
     requires order { HasOrder env.old }

@@ -59,19 +59,19 @@ fn answer_asked<S: Store>(
     alloc: Global,
     env: &mut Env,
     store: &mut S,
-    asked: Asked<'_>,
+    asked: &Asked<'_>,
     reply: &mut Vec<u8>,
 ) -> Result<(), AllocError>
-    requires askable { IsAskable (asks_shown asked) }
+    requires askable { IsAskable (asks_shown asked.now) }
     requires empty { reply.old.items ≡ [] }
     requires script { HasScriptModel env.old }
     requires order { HasOrder env.old }
-    ensures answered { Tells result (λ bytes. AnswersTo (asks_shown asked.entry) (shell_state env.old (S.files store.old) (S.faults store.old)) bytes
+    ensures answered { Tells result (λ bytes. AnswersTo (asks_shown asked.now) (shell_state env.old (S.files store.old) (S.faults store.old)) bytes
         (shell_state env.new (S.files store.new) (S.faults store.new))) reply.new.items }
     ensures script { HasScriptModel env.new }
     ensures order { HasOrder env.new }
 {
-    match asked {
+    match *asked {
         Asked::Load { file, intupper } => load(alloc, env, store, file, intupper, reply),
         Asked::Solve { options } => search_anew(alloc, env, options, reply),
         Asked::Warm { options } => search_on(alloc, env, options, reply),
@@ -102,7 +102,8 @@ impl Machine for Shell {
     ghost ends = { quits };
 
     fn ends_script(&self, words: &[&[u8]]) -> bool {
-        is_quit(read_words(words))
+        let asked = read_words(words);
+        is_quit(&asked)
     }
 
     fn answer<S: Store>(
@@ -112,7 +113,8 @@ impl Machine for Shell {
         words: &[&[u8]],
         reply: &mut Vec<u8>,
     ) -> Result<(), AllocError> {
-        let told = answer_asked(alloc, &mut self.env, store, read_words(words), reply);
+        let asked = read_words(words);
+        let told = answer_asked(alloc, &mut self.env, store, &asked, reply);
         let _sound = self.env.search();
         let _held = self.env.held();
         told
@@ -120,8 +122,8 @@ impl Machine for Shell {
 }
 
 /// The end of the script is asked for.
-fn is_quit(asked: Asked<'_>) -> bool
-    ensures { result ≡ is_quit (asks_shown asked.entry) }
+fn is_quit(asked: &Asked<'_>) -> bool
+    ensures { result ≡ is_quit (asks_shown asked.now) }
 {
     matches!(asked, Asked::Quit)
 }

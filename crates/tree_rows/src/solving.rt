@@ -2,6 +2,7 @@
 ghost use Rattle.std.specs.Prelude.{◌≡◌, ◌≤◌, replicate, None, IfOk};
 ghost use Rattle.dual_simplex.specs.SlackBases.{IsLawfulSlackBasis};
 ghost use Rattle.tree_search.specs.Search.{IsLeft};
+ghost use Rattle.tree_search.specs.Within.{IsGapLimit};
 
 use crate::searches::push_some;
 use anyhow::{Result, bail};
@@ -30,7 +31,8 @@ fn first_basis(alloc: Global, model: &Model) -> Result<Basis>
 
 /// `N` and, if there is one, `pivots N`: how many results, and moves of each relaxation, are allowed. One worker searches.
 fn limits_of(alloc: Global, line: &str) -> Result<Limits>
-    ensures { IfOk result (λ limits. 1 ≤ limits.workers) }
+    ensures workers { IfOk result (λ limits. 1 ≤ limits.workers) }
+    ensures gap { IfOk result (λ limits. IsGapLimit limits.gap) }
 {
     let mut words = Words::new(alloc, line)?;
     let nodes = take_number(&mut words)?;
@@ -46,12 +48,14 @@ fn limits_of(alloc: Global, line: &str) -> Result<Limits>
         tree: NODE_LIMIT,
         workers: 1,
         seed: 0,
+        gap: None,
     })
 }
 
 /// Searches on through a manager of one worker. The search comes back.
 fn search_through(alloc: Global, manager: Manager, limits: &Limits) -> (Search, Result<Searched>)
-    requires { manager.held ≡ replicate limits.now.workers None }
+    requires idle { manager.held ≡ replicate limits.now.workers None }
+    requires gap { IsGapLimit limits.now.gap }
     ensures { IfOk result.1 (λ searched. IsLeft result.0 searched.ended) }
 {
     let first = match first_basis(alloc, manager.search().model()) {
@@ -103,6 +107,15 @@ fn push_answer(got: &mut String, model: &Model, answer: &Answer) -> Result<()> {
             results,
         } => {
             write!(got, "optimal {value} nodes {results} at")?;
+            push_point(got, model, point)?;
+        }
+        Answer::Within {
+            gap,
+            value,
+            point,
+            results,
+        } => {
+            write!(got, "within {gap} {value} nodes {results} at")?;
             push_point(got, model, point)?;
         }
         Answer::Infeasible { results } => write!(got, "infeasible nodes {results}")?,

@@ -1,6 +1,7 @@
 -- One worker without others: it holds nothing, or the job of the leaf that goes first in this search.
 use Rattle.std.specs.Prelude.{◌≡◌, ◌⊎◌, ℕ, suc, ◌+◌, Bool, true, false, List, [], ◌∷◌, length, get_or, set, Option, Some, None}
 use Rattle.std.proofs.Common.{refl, sym, subst, ap, ◌∙◌, inl, inr, arith}
+use Rattle.frac128.specs.Rational.{ℚ}
 use Rattle.lp_model.specs.Formulations.{Formulation}
 use Rattle.lp_model.specs.declared.types.Basis.{Basis}
 use Rattle.branch_tree.specs.Leaves.{region_leaf}
@@ -105,9 +106,9 @@ module _ (a b : Crew) (alone : IsAlone a.search a.jobs) where
 
 -- ---- one turn after the other
 
-module _ (ways : Ways) (first : Basis) (pivots : ℕ) (old : PlainSearch) (seed : ℕ) where
+module _ (ways : Ways) (first : Basis) (pivots : ℕ) (old : PlainSearch) (seed : ℕ) (gap : Option ℚ) where
   abbrev begin : Crew
-  begin = first_crew old (record { workers = 1; seed = seed })
+  begin = first_crew old (record { workers = 1; seed = seed; gap = gap })
 
   alone : (turns : List Turn) (b : Crew) → Drives ways first pivots turns begin b → IsAlone b.search b.jobs × PlacesAlone ways first pivots (placings turns) old b.search
   alone [] b same = (subst (λ (c : Crew). IsAlone c.search c.jobs) (sym same) (Idle refl), ap (λ (c : Crew). c.search) same)
@@ -122,9 +123,9 @@ module _ (ways : Ways) (first : Basis) (pivots : ℕ) (old : PlainSearch) (seed 
 
 pub one-worker : OneWorkerLaw
 one-worker = record {
-  places = λ ways first pivots seed n old new goes.
-      let places = (alone ways first pivots old seed goes.turns goes.crew goes.drives).1 in
+  places = λ ways first pivots seed n gap old new goes.
+      let places = (alone ways first pivots old seed gap goes.turns goes.crew goes.drives).1 in
       subst (λ m. PlacesAlone ways first pivots m old new) goes.results (subst (PlacesAlone ways first pivots (placings goes.turns) old) goes.search_is places);
-  turn = λ ways first pivots seed n old new goes job acts.
-      subst (λ S. IsNextJob S job) goes.search_is (works-next goes.crew (alone ways first pivots old seed goes.turns goes.crew goes.drives).0 job acts);
+  turn = λ ways first pivots seed n gap old new goes job acts.
+      subst (λ S. IsNextJob S job) goes.search_is (works-next goes.crew (alone ways first pivots old seed gap goes.turns goes.crew goes.drives).0 job acts);
 }

@@ -48,7 +48,7 @@ use Rattle.tree_search.specs.Search.{StopsFor, Ends, IsLeft, Finds}
 use Rattle.tree_search.specs.declared.searching.Ways.{Ways}
 use Rattle.tree_search.specs.declared.searching.Ways.TheVariants.{Own, Rays}
 use Rattle.tree_search.specs.declared.searching.Ended.{Ended}
-use Rattle.tree_search.specs.declared.searching.Ended.TheVariants.{Finished, Unbounded, Stopped}
+use Rattle.tree_search.specs.declared.searching.Ended.TheVariants.{Finished, Within, Unbounded, Stopped}
 use Rattle.tree_search.specs.declared.searching.Searched.{Searched}
 use Rattle.tree_search.specs.declared.stepping.Working.{Working}
 use Rattle.tree_search.specs.private.Stepping.{Comes}
@@ -245,6 +245,7 @@ module _ (ways : Ways) (first : Basis) (order : Order) (nodes pivots : ℕ) (old
 
   has-cause : (n : ℕ) (new : PlainSearch) (e : Ended) → IsLeft new e → Ends ways first order nodes pivots n old new e → HasStopCause old new.cuts ways first nodes pivots e
   has-cause n new Finished left h = tt
+  has-cause n new (Within g) left h = tt
   has-cause n new Unbounded left h = tt
   has-cause n new (Stopped w) left h = stop-cause n new w left h
 
@@ -255,6 +256,7 @@ module _ (ways : Ways) (first : Basis) (order : Order) (nodes pivots : ℕ) (old
 
   ends-cap : (n : ℕ) (new : PlainSearch) (e : Ended) → Ends ways first order nodes pivots n old new e → n ≤ cap_of old.model
   ends-cap n new Finished h = goes-cap ways first pivots order old sound lawful n new h.goes
+  ends-cap n new (Within g) h = goes-cap ways first pivots order old sound lawful n new h.goes
   ends-cap n new Unbounded h =
       let most : h.before + 1 ≤ cap_of old.model = next-most h.before h.after.mid h.after.here.job (Done (PointAndClose h.after.here.point h.after.here.mult h.after.here.basis) h.after.here.found) h.after.goes h.after.here.works in
       let is : n ≡ h.before + 1 = h.counted in
@@ -273,6 +275,7 @@ module _ (ways : Ways) (first : Basis) (order : Order) (nodes pivots : ℕ) (old
 
   ends-model : (n : ℕ) (new : PlainSearch) (e : Ended) → Ends ways first order nodes pivots n old new e → new.model ≡ old.model
   ends-model n new Finished h = h.goes.model
+  ends-model n new (Within g) h = h.goes.model
   ends-model n new Unbounded h = keeps-model h.after.mid h.after.here.job h.after.here.found.items (Some h.after.here.point) h.after.here.basis new h.after.here.keeps ∙ h.after.goes.model
   ends-model n new (Stopped why.Nodes) h = h.goes.model
   ends-model n new (Stopped why.Tree) h = next-model h.mid new why.Tree h.here ∙ h.goes.model
@@ -325,6 +328,7 @@ module _ (ways : Ways) (first : Basis) (order : Order) (nodes pivots : ℕ) (old
       where
         ended : (e : Ended) → HasStopCause old new.cuts ways first nodes pivots e → IsAtEnd e
         ended Finished cause = tt
+        ended (Within g) cause = tt
         ended Unbounded cause = tt
         ended (Stopped w) cause = no-cause new.cuts enough w cause
 

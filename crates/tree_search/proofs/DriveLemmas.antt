@@ -36,7 +36,7 @@ use Rattle.tree_search.specs.Search.{Ends, GivesUp, WideAtNext}
 use Rattle.tree_search.specs.Driven.{result_events, turn_events, drive_events, results_of, results_in, IsWorkEvent, HasHistory, DriveLaw}
 use Rattle.tree_search.specs.declared.searching.Ways.{Ways}
 use Rattle.tree_search.specs.declared.searching.Ended.{Ended}
-use Rattle.tree_search.specs.declared.searching.Ended.TheVariants.{Finished, Unbounded, Stopped}
+use Rattle.tree_search.specs.declared.searching.Ended.TheVariants.{Finished, Within, Unbounded, Stopped}
 use Rattle.tree_search.specs.declared.stepping.WorkEnd.TheVariants as end
 use Rattle.tree_search.proofs.CrewLemmas.{held-kept, held-set, held-none, hands-same}
 use Rattle.tree_search.proofs.FoundLemmas.{found-fits}
@@ -266,6 +266,7 @@ gives-history ways first order nodes pivots old new kept up = by up.adds
 module _ (ways : Ways) (first : Basis) (order : Order) (nodes pivots : ℕ) (old new : PlainSearch) (kept : IsKept old) (kept' : IsKept new) where
   ends-history : (n : ℕ) (ended : Ended) → Ends ways first order nodes pivots n old new ended → HasHistory order n old new
   ends-history n Finished e = went ways first order pivots n old kept new e.goes
+  ends-history n (Within g) e = went ways first order pivots n old kept new e.goes
   ends-history n Unbounded e =
       let a = e.after in
       let few = found-fits (work_next ways first pivots a.mid a.here.job) a.goes.sound.few_cuts (end.Done _) a.here.found a.here.works.worked_is in

@@ -4,6 +4,7 @@ use Rattle.std.specs.Option.{option_map}
 use Rattle.std.proofs.Common.{refl, sym, subst, ap, ◌∙◌, inl, inr, arith}
 use Rattle.std.proofs.lemmas.Bool.{cases_eq, cases_lt}
 use Rattle.std.proofs.lemmas.List.{get_or-set_same, get_or-set_other, get_or_past, get_or-replicate, length-replicate}
+use Rattle.frac128.specs.Rational.{ℚ}
 use Rattle.rand_pcg.specs.Lcg.{Lcg}
 use Rattle.lp_model.specs.declared.types.Derivation.{Derivation}
 use Rattle.lp_model.specs.declared.answers.StopWhy.{StopWhy}
@@ -20,17 +21,20 @@ use Rattle.tree_manager.specs.Managers.{PlainManager, HoldsLeaf, has_open, IsMan
 use Rattle.tree_manager.specs.Events.{GivesJob}
 use Rattle.turn_order.specs.Words.{first_words}
 use Rattle.tree_search.specs.Steps.{HasOpenLeaf, Places, StopsAtNext}
-use Rattle.tree_search.specs.Turns.{Order, Crew, ActsOn, Turn, HandOut, PlaceResult, Drives, placings, Goes, id_of, held_of, manager_of, kept_job, jobs_on, first_crew}
+use Rattle.tree_search.specs.Turns.{Order, Crew, ActsOn, Turn, HandOut, PlaceResult, Drives, NoneDone, placings, Goes, id_of, held_of, manager_of, kept_job, jobs_on, first_crew}
 use Rattle.tree_search.specs.Search.{StopsFor, GivesUp}
 use Rattle.tree_search.specs.private.Stepping.{IsReady, IsStopOf, HandsTurn, WorksTurn, AreJobsOf, Comes}
 use Rattle.tree_search.specs.declared.searching.Ways.{Ways}
+use Rattle.tree_search.specs.declared.searching.Ways.TheVariants.{Own, Rays}
 use Rattle.lp_model.specs.declared.types.Basis.{Basis}
 use Rattle.search_parts.specs.Points.{IsKeepable}
 use Rattle.sound_searches.specs.Free.{IsNextFree}
 use Rattle.sound_searches.proofs.OtherLemmas.{placing-other}
 use Rattle.tree_search.specs.Extends.{Extends}
 use Rattle.tree_search.specs.GivingUp.{LeavesTurn}
-use Rattle.tree_search.specs.declared.searching.Ended.TheVariants.{Finished, Unbounded, Stopped}
+use Rattle.tree_search.specs.Within.{IsGapReached}
+use Rattle.search_gaps.specs.Within.{AreLeavesWithin}
+use Rattle.tree_search.specs.declared.searching.Ended.TheVariants.{Finished, Within, Unbounded, Stopped}
 use Rattle.tree_search.specs.declared.stepping.Working.{Working}
 use Rattle.tree_search.specs.declared.stepping.Stepped.TheVariants as stepped
 use Rattle.node_solve.proofs.AddedLemmas.{more-cuts}
@@ -45,6 +49,17 @@ use Rattle.tree_search.proofs.CrewLemmas.{held-kept, held-set, held-none, held-a
 -- further cuts leave the open leaves
 open-added : (S : PlainSearch) (ds : List Derivation) (T : PlainSearch) → AddsCuts S ds T → HasOpenLeaf S → HasOpenLeaf T
 open-added S ds T adds (id, (path, h)) = subst HasOpenLeaf (sym (more-cuts ds S T adds).now) (id, (path, record { kept = h.kept; leaf = h.leaf; state = h.state }))
+
+-- a gap in which the search is done was given
+pub done-gap : (ways : Ways) (gap : Option ℚ) (S : PlainSearch) → IsGapReached ways gap S → (g : ℚ) × (gap ≡ Some g)
+done-gap Own None S done = absurd done
+done-gap Own (Some g) S done = (g, refl)
+done-gap (Rays model) gap S done = absurd done
+
+-- where it is done a leaf is open, and all leaves are within the gap
+done-left : (ways : Ways) (g : ℚ) (S : PlainSearch) → IsGapReached ways (Some g) S → HasOpenLeaf S × AreLeavesWithin S g
+done-left Own g S done = done
+done-left (Rays model) g S done = absurd done
 
 with-cause : {A B C : Type 0} → C → A ⊎ B → A ⊎ (C × B)
 with-cause c (inl a) = inl a
@@ -113,6 +128,7 @@ pub record IsUnderway (working : Working) (order : Order) (nodes n : ℕ) (old :
   pub model : P.search.model ≡ old.model
   pub turns : List Turn
   pub drives : Drives working.ways working.first.now working.pivots turns (first_crew old order) (record { search = P.search; jobs = jobs; words = words })
+  pub going : NoneDone working.ways working.first.now working.pivots order.gap turns (first_crew old order) (record { search = P.search; jobs = jobs; words = words }) drives
   pub results : placings turns ≡ n
   pub extends : Extends old.tree.root P.search.tree.root
   pub work : n + work_of P.search ≤ work_of old
@@ -131,6 +147,7 @@ module _ (working : Working) (order : Order) (nodes : ℕ) (old : PlainSearch) w
         model = refl;
         turns = [];
         drives = refl;
+        going = tt;
         results = refl;
         extends = extends-self old.tree.root;
         work = omega arith;
@@ -149,19 +166,19 @@ module _ (working : Working) (order : Order) (nodes : ℕ) (old : PlainSearch) w
     crew = record { search = P.search; jobs = jobs; words = words }
 
     pub goes : IsSound S → Goes working.ways working.first.now working.pivots order n old S
-    goes sound = record { crew = crew; search_is = refl; turns = h.turns; drives = h.drives; results = h.results; model = h.model; extends = h.extends; work = h.work; room = h.room; sound = sound }
+    goes sound = record { crew = crew; search_is = refl; turns = h.turns; drives = h.drives; going = h.going; results = h.results; model = h.model; extends = h.extends; work = h.work; room = h.room; sound = sound }
 
     below : (n ≡ nodes → ⊥) → n < nodes
     below other = let most : n ≤ nodes = h.limit in omega (arith, most, other)
 
     -- without memory in the next turn, which the limit allows
-    pub gives-up : (T : PlainSearch) → IsSound S → (n ≡ nodes → ⊥) → (T ≡ S) ⊎ LeavesTurn working.ways working.first.now working.pivots crew S T → GivesUp working.ways working.first.now order nodes working.pivots old T
+    pub gives-up : ¬ IsGapReached working.ways order.gap S → (T : PlainSearch) → IsSound S → (n ≡ nodes → ⊥) → (T ≡ S) ⊎ LeavesTurn working.ways working.first.now working.pivots crew S T → GivesUp working.ways working.first.now order nodes working.pivots old T
     unfolding goes
-    gives-up T sound other left = record { results = n; within_limit = h.limit; mid = S; goes = goes sound; adds = with-cause (below other) left }
+    gives-up not_done T sound other left = record { results = n; within_limit = h.limit; mid = S; goes = goes sound; adds = with-cause (below other) left; going = inr not_done }
 
     -- without memory before it
     pub gives-same : IsSound S → GivesUp working.ways working.first.now order nodes working.pivots old S
-    gives-same sound = record { results = n; within_limit = h.limit; mid = S; goes = goes sound; adds = inl refl }
+    gives-same sound = record { results = n; within_limit = h.limit; mid = S; goes = goes sound; adds = inl refl; going = inl refl }
 
     pub jobs-of : AreJobsOf P jobs
     jobs-of = record { held = h.held; each = h.all }
@@ -169,8 +186,8 @@ module _ (working : Working) (order : Order) (nodes : ℕ) (old : PlainSearch) w
     -- ---- a turn
 
     -- a leaf is handed out
-    pub hands-on : (Q : PlainManager) (after : List (Option Job)) (left : Lcg) → HandsTurn P jobs words Q after left → IsUnderway working order nodes n old Q after left
-    hands-on Q after left t =
+    pub hands-on : ¬ IsGapReached working.ways order.gap S → (Q : PlainManager) (after : List (Option Job)) (left : Lcg) → HandsTurn P jobs words Q after left → IsUnderway working order nodes n old Q after left
+    hands-on not_done Q after left t =
         let w : ℕ = t.turn.w in
         let job : Job = t.hands.job in
         let g = t.hands.gives in
@@ -185,6 +202,7 @@ module _ (working : Working) (order : Order) (nodes : ℕ) (old : PlainSearch) w
           model = h.model;
           turns = HandOut ∷ h.turns;
           drives = (crew, (h.drives, record { w = w; acts = t.turn.acts; job = job; gives = gives; jobs_are = refl }));
+          going = (h.going, not_done);
           results = let same : placings h.turns ≡ n = h.results in omega (arith, same);
           extends = h.extends;
           work = h.work;
@@ -196,8 +214,8 @@ module _ (working : Working) (order : Order) (nodes : ℕ) (old : PlainSearch) w
         })
 
     -- a result is placed
-    pub goes-on : IsManager P → (Q : PlainManager) → IsSound Q.search → IsNumbered Q.search.tree → (n ≡ nodes → ⊥) → (after : List (Option Job)) (left : Lcg) → WorksTurn working P jobs words stepped.Placed Q after left → IsUnderway working order nodes (n + 1) old Q after left
-    goes-on manager Q sound numbered other after left t =
+    pub goes-on : ¬ IsGapReached working.ways order.gap S → IsManager P → (Q : PlainManager) → IsSound Q.search → IsNumbered Q.search.tree → (n ≡ nodes → ⊥) → (after : List (Option Job)) (left : Lcg) → WorksTurn working P jobs words stepped.Placed Q after left → IsUnderway working order nodes (n + 1) old Q after left
+    goes-on not_done manager Q sound numbered other after left t =
         let T : PlainSearch = Q.search in
         let w : ℕ = t.turn.w in
         let p = t.steps.1.0 in
@@ -216,6 +234,7 @@ module _ (working : Working) (order : Order) (nodes : ℕ) (old : PlainSearch) w
           model = t.steps.0.model ∙ h.model;
           turns = PlaceResult ∷ h.turns;
           drives = (crew, (h.drives, record { w = w; acts = t.turn.acts; places = p; holds = t.holds ∙ ap Some (sym same); jobs_are = t.jobs_are; sound = sound; numbered = numbered }));
+          going = (h.going, not_done);
           results = ap (λ m. m + 1) h.results;
           extends = extends-on old.tree.root S.tree.root T.tree.root h.extends (extends-placed S manager.sound manager.numbered working.ways working.first.now working.pivots T p);
           work = omega (arith, less, work);
@@ -228,26 +247,31 @@ module _ (working : Working) (order : Order) (nodes : ℕ) (old : PlainSearch) w
 
     -- ---- where it ends
 
-    pub at-limit : IsSound S → n ≡ nodes → HasOpenLeaf S → Comes working order nodes old S (record { ended = Stopped why.Nodes; results = n })
-    at-limit sound all left = record { within_limit = h.limit; ends = record { goes = goes sound; all = all }; left = left; extends = h.extends }
+    pub at-limit : ¬ IsGapReached working.ways order.gap S → IsSound S → n ≡ nodes → HasOpenLeaf S → Comes working order nodes old S (record { ended = Stopped why.Nodes; results = n })
+    at-limit not_done sound all left = record { within_limit = h.limit; ends = record { goes = goes sound; all = all; going = not_done }; left = left; extends = h.extends }
 
     pub finishes : IsSound S → HasNoOpenLeaf S → Comes working order nodes old S (record { ended = Finished; results = n })
     finishes sound none = record { within_limit = h.limit; ends = record { goes = goes sound; finished = none }; left = none; extends = h.extends }
+
+    pub ends-within : (g : ℚ) → order.gap ≡ Some g → IsGapReached working.ways order.gap S → IsSound S → Comes working order nodes old S (record { ended = Within g; results = n })
+    ends-within g asked done sound =
+        let here : IsGapReached working.ways (Some g) S = subst (λ gap. IsGapReached working.ways gap S) asked done in
+        record { within_limit = h.limit; ends = record { goes = goes sound; asked = asked; done = here }; left = done-left working.ways g S here; extends = h.extends }
 
     module _ (Q : PlainManager) (after : List (Option Job)) (left : Lcg) where
       acts-on : (s : _) (t : WorksTurn working P jobs words s Q after left) (named : Job) → named ≡ t.job → ActsOn crew named
       acts-on s t named same = record { w = t.turn.w; left = left; acts = t.turn.acts; holds = t.holds ∙ ap Some (sym same) }
 
-      pub finds-point : IsSound S → IsNumbered S.tree → (n ≡ nodes → ⊥) → WorksTurn working P jobs words stepped.Found Q after left → Comes working order nodes old Q.search (record { ended = Unbounded; results = n + 1 })
+      pub finds-point : ¬ IsGapReached working.ways order.gap S → IsSound S → IsNumbered S.tree → (n ≡ nodes → ⊥) → WorksTurn working P jobs words stepped.Found Q after left → Comes working order nodes old Q.search (record { ended = Unbounded; results = n + 1 })
       unfolding goes
-      finds-point sound numbered other t =
+      finds-point not_done sound numbered other t =
           let here = t.steps.0 in
           record {
             within_limit = let under : n < nodes = below other in omega (arith, under);
             ends = record {
               before = n;
               counted = refl;
-              after = record { mid = S; goes = goes sound; below_limit = below other; here = here; turn = acts-on stepped.Found t here.job t.steps.1 };
+              after = record { mid = S; goes = goes sound; below_limit = below other; here = here; turn = acts-on stepped.Found t here.job t.steps.1; going = not_done };
               unbounded = subst IsUnbounded h.model (point-unbounded working.ways S here.rays h.ready.ways here.job working.first.now working.pivots here.point here.mult here.basis here.found here.works.worked_is);
             };
             left = (here.job.id, (here.job.region, here.keeps.stays));
@@ -268,19 +292,19 @@ module _ (working : Working) (order : Order) (nodes : ℕ) (old : PlainSearch) w
       turn-of : (named : Job) → named ≡ t.job → ActsOn crew named
       turn-of named same = acts-on Q after left (stepped.Stopped reason) t named same
 
-      stops-for : (w : StopWhy) → IsSound S → (n ≡ nodes → ⊥) → (here : StopsAtNext working.ways working.first.now working.pivots S T w) → IsStopOf working.ways working.first.now working.pivots S T w here t.job
+      stops-for : ¬ IsGapReached working.ways order.gap S → (w : StopWhy) → IsSound S → (n ≡ nodes → ⊥) → (here : StopsAtNext working.ways working.first.now working.pivots S T w) → IsStopOf working.ways working.first.now working.pivots S T w here t.job
           → StopsFor working.ways working.first.now order nodes working.pivots n old T w
       unfolding goes
-      stops-for why.Nodes sound other here of = absurd here
-      stops-for why.Tree sound other here of = record { mid = S; goes = goes sound; below_limit = below other; here = here; turn = turn-of here.job of }
-      stops-for (why.Pivots place) sound other here of = record { mid = S; goes = goes sound; below_limit = below other; here = here; turn = turn-of here.job of }
-      stops-for (why.Wide at) sound other (inl here) of = record { mid = S; goes = goes sound; below_limit = below other; here = inl here; turn = turn-of here.job of }
-      stops-for (why.Wide at) sound other (inr here) of = record { mid = S; goes = goes sound; below_limit = below other; here = inr here; turn = turn-of here.job of }
+      stops-for not_done why.Nodes sound other here of = absurd here
+      stops-for not_done why.Tree sound other here of = record { mid = S; goes = goes sound; below_limit = below other; here = here; turn = turn-of here.job of; going = not_done }
+      stops-for not_done (why.Pivots place) sound other here of = record { mid = S; goes = goes sound; below_limit = below other; here = here; turn = turn-of here.job of; going = not_done }
+      stops-for not_done (why.Wide at) sound other (inl here) of = record { mid = S; goes = goes sound; below_limit = below other; here = inl here; turn = turn-of here.job of; going = not_done }
+      stops-for not_done (why.Wide at) sound other (inr here) of = record { mid = S; goes = goes sound; below_limit = below other; here = inr here; turn = turn-of here.job of; going = not_done }
 
-      pub stops : IsSound S → IsNumbered S.tree → (n ≡ nodes → ⊥) → HasOpenLeaf S → Comes working order nodes old T (record { ended = Stopped reason; results = n })
-      stops sound numbered other is_open = record {
+      pub stops : ¬ IsGapReached working.ways order.gap S → IsSound S → IsNumbered S.tree → (n ≡ nodes → ⊥) → HasOpenLeaf S → Comes working order nodes old T (record { ended = Stopped reason; results = n })
+      stops not_done sound numbered other is_open = record {
         within_limit = h.limit;
-        ends = stops-for reason sound other t.steps.0 t.steps.1;
+        ends = stops-for not_done reason sound other t.steps.0 t.steps.1;
         left = stop-left T reason is_open t.steps.0;
         extends = extends-on old.tree.root S.tree.root T.tree.root h.extends (extends-stopped S sound numbered working.ways working.first.now working.pivots T reason t.steps.0);
       }

@@ -1,7 +1,7 @@
 -- The leaf that goes first: it is there and open, and where there is none no leaf is open.
 use Rattle.std.specs.Prelude.{◌≡◌, ℕ, ◌≤◌, List, [], ◌∷◌, ◌++◌, length, map, All, Some, None}
 use Rattle.std.specs.Option.{option_map}
-use Rattle.std.proofs.Common.{sym, subst, ap, ◌∙◌, inl, inr, arith}
+use Rattle.std.proofs.Common.{refl, sym, subst, ap, ◌∙◌, inl, inr, arith}
 use Rattle.std.proofs.lemmas.List.{get_or-map, length-map}
 use Rattle.std.proofs.lemmas.List.Elements.{All-map, All-head, All-tail, All-cons}
 use Rattle.lp_model.specs.Regions.{Path}
@@ -15,7 +15,8 @@ use Rattle.branch_tree.specs.declared.node.LeafData.{LeafData}
 use Rattle.branch_tree.specs.declared.node.LeafState.TheVariants.{IsOpen, IsClosed}
 use Rattle.branch_tree.proofs.PathLaws.{each-found}
 use Rattle.branch_tree.proofs.TreeLemmas.{each_leaf-leaves}
-use Rattle.leaf_judging.specs.Choosing.{IsOneOf, IsCandidate, AreClosed}
+use Rattle.leaf_judging.specs.Choosing.{IsOneOf, IsCandidate, AreClosed, IsFirstCandidate}
+use Rattle.leaf_judging.specs.declared.choosing.Candidate.{Candidate}
 use Rattle.sound_searches.specs.Sound.{PlainSearch, formulation_of}
 use Rattle.sound_searches.specs.Calls.{IsLeafAt, IsOpenLeaf, IsNext}
 use Rattle.tree_search.specs.Steps.{HasOpenLeaf}
@@ -89,6 +90,10 @@ pub next-not_stale : (S : PlainSearch) (id : ℕ) → IsNumbered S.tree → IsNe
 next-not_stale S id numbered next stale =
     let found = next-found S id numbered next in
     let e : IsOpen ≡ IsClosed = sym found.1.0 ∙ stale found.0.kept found.1.1.data_is in cc
+
+-- the open leaf that goes first is the next one
+pub first-next : (S : PlainSearch) (c : Candidate) → IsFirstCandidate (formulation_of S) (region_leaves [] S.tree.root) (Some c) → IsNext S (Some c.id)
+first-next S c first = (c, (first, refl))
 
 pub no-leaf_open : (S : PlainSearch) → IsNext S None → HasNoOpenLeaf S
 no-leaf_open S next = none-open S.tree.root (closed-all (region_leaves [] S.tree.root) next)

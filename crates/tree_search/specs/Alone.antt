@@ -2,7 +2,8 @@
 --     IsNextJob S job                         the job of the open leaf that goes first
 --     PlacesAlone ways first pivots n S S'    n results, one after the other, each of the leaf that goes first then
 --     OneWorkerLaw                            so with one worker these are the results that turns place, whatever the seed is
-use Rattle.std.specs.Prelude.{◌≡◌, ℕ, zero, suc, Some}
+use Rattle.std.specs.Prelude.{◌≡◌, ℕ, zero, suc, Option, Some}
+use Rattle.frac128.specs.Rational.{ℚ}
 use Rattle.lp_model.specs.declared.types.Basis.{Basis}
 use Rattle.branch_tree.specs.declared.node.Job.{Job}
 use Rattle.sound_searches.specs.Calls.{IsNext}
@@ -22,6 +23,6 @@ PlacesAlone ways first pivots (suc n) old new = (mid : PlainSearch) × (PlacesAl
 
 pub record OneWorkerLaw : Type 0 where
   -- what was placed
-  pub places : (ways : Ways) (first : Basis) (pivots seed n : ℕ) (old new : PlainSearch) → Goes ways first pivots (record { workers = 1; seed = seed }) n old new → PlacesAlone ways first pivots n old new
+  pub places : (ways : Ways) (first : Basis) (pivots seed n : ℕ) (gap : Option ℚ) (old new : PlainSearch) → Goes ways first pivots (record { workers = 1; seed = seed; gap = gap }) n old new → PlacesAlone ways first pivots n old new
   -- whose turn it is then, if it works a job
-  pub turn : (ways : Ways) (first : Basis) (pivots seed n : ℕ) (old new : PlainSearch) (goes : Goes ways first pivots (record { workers = 1; seed = seed }) n old new) (job : Job) → ActsOn goes.crew job → IsNextJob new job
+  pub turn : (ways : Ways) (first : Basis) (pivots seed n : ℕ) (gap : Option ℚ) (old new : PlainSearch) (goes : Goes ways first pivots (record { workers = 1; seed = seed; gap = gap }) n old new) (job : Job) → ActsOn goes.crew job → IsNextJob new job

@@ -25,7 +25,7 @@ use Rattle.tree_search.specs.Room.{IsSelection, IsWorkedRegion, HasMoves, HasRoo
 use Rattle.tree_search.specs.declared.searching.Ways.{Ways}
 use Rattle.tree_search.specs.declared.searching.Ways.TheVariants.{Own, Rays}
 use Rattle.tree_search.specs.declared.searching.Ended.{Ended}
-use Rattle.tree_search.specs.declared.searching.Ended.TheVariants.{Finished, Unbounded, Stopped}
+use Rattle.tree_search.specs.declared.searching.Ended.TheVariants.{Finished, Within, Unbounded, Stopped}
 
 -- after exactly so many moves from the start of a leaf's run a basic variable is outside a side, and the basis is that of the state there
 pub record IsPivotCause (M : Program) (pool : List CutRow) (first : Basis) (limit : ℕ) (place : PivotPlace) : Type 0 where
@@ -78,6 +78,7 @@ IsCause S pool ways first nodes pivots (Wide at) = IsStepCause ways S.model pool
 -- a search that begins with S and these limits has a cause to stop, if it stops
 abbrev pub HasStopCause : PlainSearch → List CutRow → Ways → Basis → ℕ → ℕ → Ended → Type 0
 HasStopCause S pool ways first nodes pivots Finished = Unit {0}
+HasStopCause S pool ways first nodes pivots (Within g) = Unit {0}
 HasStopCause S pool ways first nodes pivots Unbounded = Unit {0}
 HasStopCause S pool ways first nodes pivots (Stopped why) = IsCause S pool ways first nodes pivots why
 
@@ -85,6 +86,7 @@ HasStopCause S pool ways first nodes pivots (Stopped why) = IsCause S pool ways 
 
 abbrev pub IsAtEnd : Ended → Type 0
 IsAtEnd Finished = Unit {0}
+IsAtEnd (Within g) = Unit {0}
 IsAtEnd Unbounded = Unit {0}
 IsAtEnd (Stopped why) = ⊥
 

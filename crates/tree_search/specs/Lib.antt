@@ -16,3 +16,4 @@ pub mod EnoughLaws
 pub mod Solves
 pub mod Warm
 pub mod private
+pub mod Within

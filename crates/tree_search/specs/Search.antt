@@ -3,7 +3,7 @@ use Rattle.std.specs.Prelude.{◌≡◌, ◌⊎◌, ℕ, ◌+◌, ◌<◌, ◌�
 use Rattle.std.specs.Option.{option_map}
 use Rattle.std.proofs.Common.{inl, inr}
 use Rattle.frac128.specs.Rational.{ℚ}
-use Rattle.lp_model.specs.Program.{Point, IsFeasible, IsOptimum, IsEmpty, value, in_own_sense}
+use Rattle.lp_model.specs.Program.{Point, IsFeasible, IsOptimum, IsWithinGap, IsEmpty, value, in_own_sense}
 use Rattle.lp_model.specs.Regions.{Path, InRegion}
 use Rattle.lp_model.specs.declared.types.Basis.{Basis}
 use Rattle.lp_model.specs.declared.answers.WideAt.{WideAt}
@@ -24,10 +24,12 @@ use Rattle.tree_search.specs.Steps.{HasOpenLeaf, FullAtNext, PivotsAtNext, StepA
 use Rattle.tree_search.specs.Turns.{Order, ActsOn, Goes}
 use Rattle.tree_search.specs.Causes.{HasStopCause}
 use Rattle.tree_search.specs.Extends.{Extends}
+use Rattle.search_gaps.specs.Within.{AreLeavesWithin}
+use Rattle.tree_search.specs.Within.{IsGapReached}
 use Rattle.tree_search.specs.GivingUp.{LeavesTurn}
 use Rattle.tree_search.specs.declared.searching.Ways.{Ways}
 use Rattle.tree_search.specs.declared.searching.Ended.{Ended}
-use Rattle.tree_search.specs.declared.searching.Ended.TheVariants.{Finished, Unbounded, Stopped}
+use Rattle.tree_search.specs.declared.searching.Ended.TheVariants.{Finished, Within, Unbounded, Stopped}
 use Rattle.tree_search.specs.declared.searching.Searched.{Searched}
 
 -- ---- where it stops, and where it ends
@@ -40,11 +42,13 @@ pub record IsAfter (ways : Ways) (first : Basis) (order : Order) (nodes pivots n
   pub below_limit : n < nodes
   pub here : Here mid
   pub turn : ActsOn goes.crew (job_of mid here)
+  pub going : ¬ IsGapReached ways order.gap mid
 
--- as many results as the limit allows were placed
+-- as many results as the limit allows were placed, and the search is not done within the gap
 pub record IsAtLimit (ways : Ways) (first : Basis) (order : Order) (nodes pivots n : ℕ) (old new : PlainSearch) : Type 0 where
   pub goes : Goes ways first pivots order n old new
   pub all : n ≡ nodes
+  pub going : ¬ IsGapReached ways order.gap new
 
 -- a step of the work has no room, or beside a ray one of the value of the point
 abbrev pub WideAtNext : Ways → Basis → ℕ → PlainSearch → PlainSearch → WideAt → Type 0
@@ -72,15 +76,23 @@ pub record FinishesSearch (ways : Ways) (first : Basis) (order : Order) (pivots 
   pub goes : Goes ways first pivots order n old new
   pub finished : HasNoOpenLeaf new
 
+-- all leaves are within this gap, which was given, and a leaf is open; no ray was found
+pub record EndsWithin (ways : Ways) (first : Basis) (order : Order) (pivots n : ℕ) (g : ℚ) (old new : PlainSearch) : Type 0 where
+  pub goes : Goes ways first pivots order n old new
+  pub asked : order.gap ≡ Some g
+  pub done : IsGapReached ways (Some g) new
+
 abbrev pub Ends : Ways → Basis → Order → ℕ → ℕ → ℕ → PlainSearch → PlainSearch → Ended → Type 0
 Ends ways first order nodes pivots n old new Finished = FinishesSearch ways first order pivots n old new
 Ends ways first order nodes pivots n old new Unbounded = FindsPoint ways first order nodes pivots n old new
+Ends ways first order nodes pivots n old new (Within g) = EndsWithin ways first order pivots n g old new
 Ends ways first order nodes pivots n old new (Stopped why) = StopsFor ways first order nodes pivots n old new why
 
--- whether a leaf is left open
+-- whether a leaf is left open, and with a gap what holds of all leaves
 abbrev pub IsLeft : PlainSearch → Ended → Type 0
 IsLeft S Finished = HasNoOpenLeaf S
 IsLeft S Unbounded = HasOpenLeaf S
+IsLeft S (Within g) = HasOpenLeaf S × AreLeavesWithin S g
 IsLeft S (Stopped why) = HasOpenLeaf S
 
 -- so many results were placed, no more than the limit and the model's cap, and every node but open leaves stays; the search had from its
@@ -95,13 +107,15 @@ pub record Finds (ways : Ways) (first : Basis) (order : Order) (nodes pivots : �
   pub cause : HasStopCause old new.cuts ways first nodes pivots searched.ended
 
 -- without memory: results were placed, no more than the limit allows, and then nothing was done, or, where the limit allows one more
--- result, cuts were added that the work on a leaf found whose worker had its turn; the search can go on
+-- result and the search is not done within the gap, cuts were added that the work on a leaf found whose worker had its turn; the search can
+-- go on
 pub record GivesUp (ways : Ways) (first : Basis) (order : Order) (nodes pivots : ℕ) (old new : PlainSearch) : Type 0 where
   pub results : ℕ
   pub within_limit : results ≤ nodes
   pub mid : PlainSearch
   pub goes : Goes ways first pivots order results old mid
   pub adds : (new ≡ mid) ⊎ ((results < nodes) × LeavesTurn ways first pivots goes.crew mid new)
+  pub going : (new ≡ mid) ⊎ (¬ IsGapReached ways order.gap mid)
 
 -- ---- what an end shows
 
@@ -117,6 +131,14 @@ pub record FindsNone (S : PlainSearch) : Type 0 where
   pub finished : HasNoOpenLeaf S
   pub no_point : S.points ≡ []
   pub none : IsEmpty S.model
+
+-- a leaf is open, all leaves are within the gap, and the best kept point is so
+pub record FindsWithin (S : PlainSearch) (g v : ℚ) (x : Point) : Type 0 where
+  pub left : HasOpenLeaf S
+  pub leaves : AreLeavesWithin S g
+  pub incumbent : IsIncumbent S.model S.points (Some x)
+  pub within : IsWithinGap S.model g x
+  pub value : v ≡ value S.model 1 x
 
 -- ---- what is known where it stops
 
@@ -145,6 +167,7 @@ pub record StopsWith (S : PlainSearch) (bound best : Option ℚ) : Type 0 where
 abbrev pub IsFinishedAnswer : PlainSearch → ℕ → Answer → Type 0
 IsFinishedAnswer S n (answer.Optimal v x m) = FindsOptimum S v x × (m ≡ n)
 IsFinishedAnswer S n (answer.Infeasible m) = FindsNone S × (m ≡ n)
+IsFinishedAnswer S n (answer.Within g v x m) = ⊥
 IsFinishedAnswer S n (answer.Unbounded m) = ⊥
 IsFinishedAnswer S n (answer.Stopped why m bound best) = ⊥
 IsFinishedAnswer S n answer.Memory = Unit {0}
@@ -152,6 +175,7 @@ IsFinishedAnswer S n answer.Memory = Unit {0}
 -- the answer of a search that stops for this with an open leaf
 abbrev pub IsStoppedAnswer : PlainSearch → StopWhy → ℕ → Answer → Type 0
 IsStoppedAnswer S why n (answer.Optimal v x m) = ⊥
+IsStoppedAnswer S why n (answer.Within g v x m) = ⊥
 IsStoppedAnswer S why n (answer.Infeasible m) = ⊥
 IsStoppedAnswer S why n (answer.Unbounded m) = ⊥
 IsStoppedAnswer S why n (answer.Stopped reason m bound best) = (reason ≡ why) × (m ≡ n) × StopsWith S bound best
@@ -159,13 +183,24 @@ IsStoppedAnswer S why n answer.Memory = Unit {0}
 
 abbrev pub IsUnboundedAnswer : ℕ → Answer → Type 0
 IsUnboundedAnswer n (answer.Optimal v x m) = ⊥
+IsUnboundedAnswer n (answer.Within g v x m) = ⊥
 IsUnboundedAnswer n (answer.Infeasible m) = ⊥
 IsUnboundedAnswer n (answer.Unbounded m) = m ≡ n
 IsUnboundedAnswer n (answer.Stopped why m bound best) = ⊥
 IsUnboundedAnswer n answer.Memory = ⊥
 
+-- the answer of a search that is done within this gap
+abbrev pub IsWithinAnswer : PlainSearch → ℚ → ℕ → Answer → Type 0
+IsWithinAnswer S g n (answer.Optimal v x m) = ⊥
+IsWithinAnswer S g n (answer.Within h v x m) = (h ≡ g) × FindsWithin S g v x × (m ≡ n)
+IsWithinAnswer S g n (answer.Infeasible m) = ⊥
+IsWithinAnswer S g n (answer.Unbounded m) = ⊥
+IsWithinAnswer S g n (answer.Stopped why m bound best) = ⊥
+IsWithinAnswer S g n answer.Memory = Unit {0}
+
 -- what is answered of a search that came to this
 abbrev pub IsAnswerAtEnd : PlainSearch → Ended → ℕ → Answer → Type 0
 IsAnswerAtEnd S Finished n a = IsFinishedAnswer S n a
 IsAnswerAtEnd S Unbounded n a = IsUnboundedAnswer n a
+IsAnswerAtEnd S (Within g) n a = IsWithinAnswer S g n a
 IsAnswerAtEnd S (Stopped why) n a = IsStoppedAnswer S why n a

@@ -8,7 +8,7 @@ use Rattle.lp_model.specs.Program.{Program, Point}
 use Rattle.lp_model.specs.declared.types.Basis.{Basis}
 use Rattle.lp_model.specs.declared.answers.StopWhy.{StopWhy}
 use Rattle.search_answers.specs.declared.answers.Answer.{Answer}
-use Rattle.search_answers.specs.declared.answers.Answer.TheVariants.{Optimal, Infeasible, Unbounded, Stopped, Memory}
+use Rattle.search_answers.specs.declared.answers.Answer.TheVariants.{Optimal, Within, Infeasible, Unbounded, Stopped, Memory}
 use Rattle.ray_phase.specs.Answers.{IsRayAnswer}
 use Rattle.ray_phase.specs.declared.phase.RayAnswer.TheVariants as ray
 use Rattle.sound_searches.specs.Calls.{IsFresh, search_with_limit}
@@ -23,9 +23,9 @@ use Rattle.ray_phase.specs.Beginnings.{StopsBefore}
 use Rattle.tree_search.specs.Beginnings.{BeginsWith}
 use Rattle.tree_search.specs.declared.limits.Limits.{Limits}
 
--- whose turn it is by these limits
+-- whose turn it is by these limits, and the gap within which the turns end
 abbrev pub turn_order_of : Limits → Order
-turn_order_of l = record { workers = l.workers; seed = l.seed }
+turn_order_of l = record { workers = l.workers; seed = l.seed; gap = l.gap }
 
 -- The search that it began with, a fresh one or one that is kept, has no open leaf; it stays since the ray phase stopped; it was searched,
 -- and this shows what is answered; or there was no memory, before it was searched or then, and the results that were placed stay.
@@ -60,6 +60,7 @@ SolvesFrom l old answer S = SolvesModel old.model l old answer S
 
 abbrev pub SaysUnbounded : Answer → Type 0
 SaysUnbounded (Optimal v x n) = ⊥
+SaysUnbounded (Within g v x n) = ⊥
 SaysUnbounded (Infeasible n) = ⊥
 SaysUnbounded (Unbounded n) = Unit {0}
 SaysUnbounded (Stopped why n bound best) = ⊥

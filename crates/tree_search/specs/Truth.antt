@@ -1,10 +1,10 @@
 -- What each answer of `solve` and of `warm_solve` says of the model, whatever was done to find it.
-use Rattle.std.specs.Prelude.{◌≡◌, ℕ, ◌-◌, ◌<◌, ◌≤◌}
-use Rattle.lp_model.specs.Program.{Program, IsOptimum, IsEmpty, value}
+use Rattle.std.specs.Prelude.{◌≡◌, ℕ, ◌-◌, ◌<◌, ◌≤◌, Some}
+use Rattle.lp_model.specs.Program.{Program, IsOptimum, IsWithinGap, IsEmpty, value}
 use Rattle.lp_model.specs.declared.answers.StopWhy.{StopWhy}
 use Rattle.lp_model.specs.declared.answers.StopWhy.TheVariants.{Nodes, Tree, Pivots, Wide}
 use Rattle.search_answers.specs.declared.answers.Answer.{Answer}
-use Rattle.search_answers.specs.declared.answers.Answer.TheVariants.{Optimal, Infeasible, Unbounded, Stopped, Memory}
+use Rattle.search_answers.specs.declared.answers.Answer.TheVariants.{Optimal, Within, Infeasible, Unbounded, Stopped, Memory}
 use Rattle.model_points.specs.Bounds.{IsBound, IsFoundValue}
 use Rattle.model_points.specs.Rays.{IsUnbounded}
 use Rattle.branch_tree.specs.Changes.{first_tree, with_limit}
@@ -27,6 +27,7 @@ IsEarlyBy Small M l (Wide at_) n = (n ≤ l.nodes) × (n < cap_of M)
 
 abbrev pub IsTrueBy : Type 0 → Program → Limits → Answer → Type 0
 IsTrueBy Small M l (Optimal v x n) = (IsOptimum M x × (v ≡ value M 1 x)) × IsCount M l n
+IsTrueBy Small M l (Within g v x n) = ((l.gap ≡ Some g) × (IsWithinGap M g x × (v ≡ value M 1 x))) × ((n ≤ l.nodes) × (n < cap_of M))
 IsTrueBy Small M l (Infeasible n) = IsEmpty M × IsCount M l n
 IsTrueBy Small M l (Unbounded n) = IsUnbounded M × IsCount M l n
 IsTrueBy Small M l (Stopped why n bound best) = (IsBound M bound × IsFoundValue M best) × IsEarlyBy Small M l why n
@@ -46,6 +47,7 @@ IsTrueOfKept S l answer = IsTrueBy (IsTooSmall S l) S.model l answer
 -- the search went to its end, or there was no memory
 abbrev pub HasEnded : Answer → Type 0
 HasEnded (Optimal v x n) = Unit {0}
+HasEnded (Within g v x n) = Unit {0}
 HasEnded (Infeasible n) = Unit {0}
 HasEnded (Unbounded n) = Unit {0}
 HasEnded (Stopped why n bound best) = ⊥

@@ -5,10 +5,12 @@
 --     PlacesInTurn ways first pivots a b      a worker works the job that it holds, and the result closes its leaf or splits it; the search after it is
 --                                             sound, as each is
 --     Drives ways first pivots turns a b      these turns, the last one first
+--     NoneDone ways gap turns                 none of the turns was taken from a search that is done within the gap
 --     Goes ways first pivots order n S S'     turns with n placed results
 -- A leaf that is not open any more is held by nobody.
 use Rattle.std.specs.Prelude.{◌≡◌, ℕ, ◌+◌, ◌≤◌, Bool, true, false, List, [], ◌∷◌, get_or, map, set, replicate, Option, Some, None}
 use Rattle.std.specs.Option.{option_map}
+use Rattle.frac128.specs.Rational.{ℚ}
 use Rattle.rand_pcg.specs.Lcg.{Lcg}
 use Rattle.lp_model.specs.declared.types.Basis.{Basis}
 use Rattle.branch_tree.specs.Numbered.{IsNumbered}
@@ -22,12 +24,14 @@ use Rattle.turn_order.specs.Words.{first_words}
 use Rattle.turn_order.specs.Turns.{IsNextTurn}
 use Rattle.tree_search.specs.Extends.{Extends}
 use Rattle.tree_search.specs.Steps.{Places}
+use Rattle.tree_search.specs.Within.{IsGapReached}
 use Rattle.tree_search.specs.declared.searching.Ways.{Ways}
 
--- how many workers there are, and the seed whose words say whose turn it is
+-- how many workers there are, the seed whose words say whose turn it is, and the gap within which no turn is taken any more
 pub record Order : Type 0 where
   pub workers : ℕ
   pub seed : ℕ
+  pub gap : Option ℚ
 
 pub record Crew : Type 0 where
   pub search : PlainSearch
@@ -105,6 +109,11 @@ abbrev pub Drives : Ways → Basis → ℕ → List Turn → Crew → Crew → T
 Drives ways first pivots [] a b = b ≡ a
 Drives ways first pivots (t ∷ turns) a b = (mid : Crew) × (Drives ways first pivots turns a mid × IsTurnOf ways first pivots t mid b)
 
+-- no turn was taken from a search that is done
+abbrev pub NoneDone : (ways : Ways) (first : Basis) (pivots : ℕ) (gap : Option ℚ) (turns : List Turn) (a b : Crew) → Drives ways first pivots turns a b → Type 0
+NoneDone ways first pivots gap [] a b same = Unit {0}
+NoneDone ways first pivots gap (t ∷ turns) a b (mid, (before, turn)) = NoneDone ways first pivots gap turns a mid before × (¬ IsGapReached ways gap mid.search)
+
 abbrev pub placings_in : Turn → ℕ
 placings_in HandOut = 0
 placings_in PlaceResult = 1
@@ -120,6 +129,7 @@ pub record Goes (ways : Ways) (first : Basis) (pivots : ℕ) (order : Order) (n 
   pub search_is : crew.search ≡ new
   pub turns : List Turn
   pub drives : Drives ways first pivots turns (first_crew old order) crew
+  pub going : NoneDone ways first pivots order.gap turns (first_crew old order) crew drives
   pub results : placings turns ≡ n
   pub model : new.model ≡ old.model
   pub extends : Extends old.tree.root new.tree.root

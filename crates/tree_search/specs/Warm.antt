@@ -3,17 +3,19 @@
 --     Warms l S answer T        the same of any search, with what is known before a leaf is worked
 --     WarmsFrom l S answer T    so with a limit on its nodes, and what stays
 -- A search goes on from the tree, the points and the lists that are kept: every node but open leaves stays.
-use Rattle.std.specs.Prelude.{◌≡◌, ◌⊎◌, ℕ, ◌<◌, length}
+use Rattle.std.specs.Prelude.{◌≡◌, ◌⊎◌, ℕ, ◌<◌, length, Some}
+use Rattle.frac128.specs.Rational.{ℚ}
 use Rattle.lp_model.specs.Program.{Program, Point}
 use Rattle.lp_model.specs.declared.types.Basis.{Basis}
 use Rattle.lp_model.specs.declared.answers.StopWhy.{StopWhy}
 use Rattle.search_answers.specs.declared.answers.Answer.{Answer}
-use Rattle.search_answers.specs.declared.answers.Answer.TheVariants.{Optimal, Infeasible, Unbounded, Stopped, Memory}
+use Rattle.search_answers.specs.declared.answers.Answer.TheVariants.{Optimal, Within, Infeasible, Unbounded, Stopped, Memory}
 use Rattle.ray_phase.specs.Answers.{IsRayAnswer}
 use Rattle.ray_phase.specs.declared.phase.RayAnswer.TheVariants as ray
 use Rattle.sound_searches.specs.Calls.{search_with_limit}
 use Rattle.sound_searches.specs.Laws.{HasNoOpenLeaf}
 use Rattle.sound_searches.specs.Sound.{PlainSearch, IsSound}
+use Rattle.search_gaps.specs.Within.{AreLeavesWithin}
 use Rattle.tree_search.specs.Extends.{Extends}
 use Rattle.tree_search.specs.Search.{IsFinishedAnswer}
 use Rattle.tree_search.specs.Steps.{HasOpenLeaf}
@@ -52,10 +54,20 @@ pub data Warms (l : Limits) (begun : PlainSearch) (answer : Answer) (S : PlainSe
 -- no result was placed
 abbrev pub PlacesNone : Answer → Type 0
 PlacesNone (Optimal v x n) = n ≡ 0
+PlacesNone (Within g v x n) = n ≡ 0
 PlacesNone (Infeasible n) = n ≡ 0
 PlacesNone (Unbounded n) = n ≡ 0
 PlacesNone (Stopped why n bound best) = ⊥
 PlacesNone Memory = Unit {0}
+
+-- none, of a stop too
+abbrev pub PlacesNoResult : Answer → Type 0
+PlacesNoResult (Optimal v x n) = n ≡ 0
+PlacesNoResult (Within g v x n) = n ≡ 0
+PlacesNoResult (Infeasible n) = n ≡ 0
+PlacesNoResult (Unbounded n) = n ≡ 0
+PlacesNoResult (Stopped why n bound best) = n ≡ 0
+PlacesNoResult Memory = Unit {0}
 
 -- what is found of a search that goes on, and what stays of it
 pub record WarmsFrom (l : Limits) (old : PlainSearch) (answer : Answer) (S : PlainSearch) : Type 0 where
@@ -65,5 +77,7 @@ pub record WarmsFrom (l : Limits) (old : PlainSearch) (answer : Answer) (S : Pla
   pub extends : Extends old.tree.root S.tree.root
   -- after a search that closed every leaf nothing is placed
   pub again : HasNoOpenLeaf old → PlacesNone answer × (S ≡ search_with_limit old l.tree)
+  -- a search that is within the gap already places nothing, where there is memory: its ray phase may stop, else it is answered so again
+  pub within : (g : ℚ) → l.gap ≡ Some g → HasOpenLeaf old → AreLeavesWithin old g → (answer ≡ Memory) ⊎ (PlacesNoResult answer × (S ≡ search_with_limit old l.tree))
   -- beside a kept point a ray shows that the objective has no end, and nothing is placed
   pub beside : 0 < length old.points → FindsRay old.model l.pivots → (answer ≡ Unbounded 0) ⊎ (answer ≡ Memory)

@@ -3,7 +3,8 @@ ghost use Rattle.std.specs.Prelude.{◌≡◌, IfOk};
 ghost use Rattle.sound_searches.specs.Laws.{HasNoOpenLeaf};
 ghost use Rattle.tree_search.specs.Steps.{HasOpenLeaf};
 ghost use Rattle.tree_search.specs.Bounds.{IsBoundOf};
-ghost use Rattle.tree_search.specs.Search.{best_value, IsLeft, IsFinishedAnswer, IsStoppedAnswer, IsAnswerAtEnd};
+ghost use Rattle.tree_search.specs.Search.{best_value, IsLeft, IsFinishedAnswer, IsWithinAnswer, IsStoppedAnswer, IsAnswerAtEnd};
+ghost use Rattle.search_gaps.specs.Within.{AreLeavesWithin};
 
 use crate::bounds::least_number;
 use crate::searching::{Ended, Searched};
@@ -39,6 +40,30 @@ pub fn finished(alloc: Global, search: &Search, results: u64) -> Answer
     match Point::from_slice(alloc, incumbent.as_slice()) {
         Err(_) => Answer::Memory,
         Ok(point) => Answer::Optimal {
+            value,
+            point,
+            results,
+        },
+    }
+}
+
+/// What a search with an open leaf has shown whose leaves are all within this gap.
+fn within(alloc: Global, search: &Search, gap: Frac, results: u64) -> Answer
+    requires left { HasOpenLeaf search.now }
+    requires within { AreLeavesWithin search.now gap }
+    ensures { IsWithinAnswer search.now gap results result }
+{
+    show_sound(search);
+    let Some(best) = search.incumbent() else {
+        unreachable!()
+    };
+    let Some(value) = best_value(search) else {
+        unreachable!()
+    };
+    match Point::from_slice(alloc, best.as_slice()) {
+        Err(_) => Answer::Memory,
+        Ok(point) => Answer::Within {
+            gap,
             value,
             point,
             results,
@@ -84,9 +109,10 @@ pub fn answer_of(alloc: Global, search: &Search, searched: Searched) -> Answer
     requires { IsLeft search.now searched.ended }
     ensures { IsAnswerAtEnd search.now searched.ended searched.results result }
 {
-    let results = searched.results;
-    match searched.ended {
+    let Searched { ended, results } = searched;
+    match ended {
         Ended::Finished => finished(alloc, search, results),
+        Ended::Within(gap) => within(alloc, search, gap, results),
         Ended::Unbounded => Answer::Unbounded { results },
         Ended::Stopped(why) => stopped(search, why, results),
     }

@@ -11,6 +11,10 @@
 //! A worker may hold its leaf while others place results. Since the target only falls, what its work comes to is still taken
 //! (`IsHeldJob`), and a leaf that others close is held by nobody.
 //!
+//! Where a gap is given, and no ray was found, the search ends before a turn, and before a stop at the limit on results, as soon as all its leaves
+//! are within the gap of the best kept point. The open leaf that goes first decides it (`first_open_law` of `search_gaps`), so that a turn costs no
+//! more. Leaves keep their marks.
+//!
 //! Where the model has a ray, its relaxations have no least value. Then those of the model without costs are worked, and
 //! the first point ends the search: with the ray beside it the objective has no end.
 //!
@@ -36,6 +40,7 @@
 mod answering;
 mod bounds;
 mod crew;
+mod done;
 mod laws;
 mod limits;
 mod searching;

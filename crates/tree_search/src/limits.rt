@@ -1,5 +1,7 @@
 // How far a solve may go, and who works in it.
 
+use frac128::Frac;
+
 /// How far a solve may go, and who works in it.
 #[derive(Clone, Copy, Drop)]
 pub struct Limits {
@@ -13,4 +15,6 @@ pub struct Limits {
     pub workers: u64,
     /// The seed whose words say whose turn it is.
     pub seed: u64,
+    /// How far from the best value the best kept point may be for the search to end, at least 0. `None` where it is to find the best.
+    pub gap: Option<Frac>,
 }

@@ -1,17 +1,27 @@
 // The search: open leaves are worked until none is left, or it stops.
-ghost use Rattle.std.specs.Prelude.{◌≡◌, ◌↔◌, ℕ, length, replicate, true, IsTrue, None, Some, IfOk, OnErr};
+ghost use Rattle.std.specs.Prelude.{◌≡◌, ◌↔◌, ℕ, [], length, replicate, true, IsTrue, IsSome, None, Some, IfOk, OnErr};
+ghost use Rattle.frac128.specs.Rational.{ℚ};
+ghost use Rattle.lp_model.specs.Program.{HasWholeObjective};
+ghost use Rattle.branch_tree.specs.Leaves.{region_leaves};
+ghost use Rattle.leaf_judging.specs.Choosing.{IsFirstCandidate};
+ghost use Rattle.sound_searches.specs.Sound.{formulation_of};
+ghost use Rattle.tree_search.specs.Within.{IsGapLimit, IsGapReached};
+ghost use Rattle.tree_search.specs.declared.searching.Ended.TheVariants.{Within};
 ghost use Rattle.tree_search.specs.Steps.{IsWayFor, IsFirstFor};
 ghost use Rattle.tree_search.specs.Causes.{IsAtEnd, IsEnoughForSearch};
 ghost use Rattle.tree_search.specs.Search.{Finds, GivesUp};
-ghost use Rattle.sound_searches.specs.Calls.{IsNext};
 ghost use Rattle.tree_search.specs.Solves.{turn_order_of};
 ghost use Rattle.tree_search.specs.private.Stepping.{IsReady, Comes};
 
+use crate::done::is_done;
 use crate::limits::Limits;
 use crate::stepping::{Stepped, Working, show_manager};
 use crate::turning::{Turned, take_turn};
 use branch_tree::Job;
+use frac128::Frac;
+use leaf_judging::Candidate;
 use lp_model::{Basis, Model, StopWhy};
+use model_points::has_whole_objective;
 use std::alloc::{AllocError, Global};
 use tree_edit::Search;
 use tree_manager::{Manager, nobody};
@@ -31,6 +41,8 @@ pub enum Ways<'a> {
 pub enum Ended {
     /// No leaf is open.
     Finished,
+    /// All leaves are within the gap of the best kept point, and a leaf is open.
+    Within(Frac),
     /// Beside a ray a point was found: the objective has no end. The point is kept, and its leaf is open.
     Unbounded,
     /// It stopped, and a leaf is open.
@@ -44,11 +56,38 @@ pub struct Searched {
     pub results: u64,
 }
 
-/// The id of the open leaf that goes first.
-fn next_leaf(manager: &Manager) -> Option<u64>
-    ensures { IsNext manager.now.search result }
+/// The open leaf that goes first.
+fn next_candidate(manager: &Manager) -> Option<Candidate>
+    ensures { IsFirstCandidate (formulation_of manager.now.search) (region_leaves [] manager.now.search.tree.root) result }
 {
-    manager.search().next_leaf()
+    manager.search().next_candidate()
+}
+
+/// Whether the search is done within the gap.
+fn is_within(
+    manager: &Manager,
+    working: &Working<'_>,
+    gap: &Option<Frac>,
+    whole: bool,
+    first: &Candidate,
+) -> bool
+    requires gap { IsGapLimit gap.now }
+    requires whole { IsTrue whole ↔ HasWholeObjective manager.now.search.model 1 }
+    requires first { IsFirstCandidate (formulation_of manager.now.search) (region_leaves [] manager.now.search.tree.root) (Some first.now) }
+    ensures { IsTrue result ↔ IsGapReached working.now.ways gap.now manager.now.search }
+{
+    is_done(manager.search(), &working.ways, gap, whole, first)
+}
+
+/// The end of a search that is within its gap, if it has one.
+fn end_within(gap: Option<Frac>) -> Ended
+    requires { IsSome gap }
+    ensures { (g : ℚ) → gap ≡ Some g → result ≡ Within g }
+{
+    match gap {
+        Some(gap) => Ended::Within(gap),
+        None => unreachable!(),
+    }
 }
 
 /// The end of a search. The jobs that workers hold are let go.
@@ -59,7 +98,7 @@ fn ended_with(jobs: Vec<Option<Job>>, ended: Ended, results: u64) -> Searched
     Searched { ended, results }
 }
 
-/// Works open leaves, one turn after the other, until none is left, or the search stops.
+/// Works open leaves, one turn after the other, until none is left, all leaves are within the gap, or the search stops.
 fn go_on(
     alloc: Global,
     manager: &mut Manager,
@@ -68,6 +107,7 @@ fn go_on(
 ) -> Result<Searched, AllocError>
     requires ready { IsReady working.now manager.old.search }
     requires idle { manager.old.held ≡ replicate limits.now.workers None }
+    requires gap { IsGapLimit limits.now.gap }
     ensures comes { IfOk result (λ searched. Comes working.now (turn_order_of limits.now) limits.now.nodes manager.old.search manager.new.search searched) }
     ensures unfinished { OnErr result (GivesUp working.now.ways working.now.first.now (turn_order_of limits.now) limits.now.nodes working.now.pivots manager.old.search manager.new.search) }
 {
@@ -78,8 +118,12 @@ fn go_on(
     };
     let mut words = words_of(limits.seed);
     let mut results = 0;
-    while let Some(id) = next_leaf(manager) {
+    let whole = has_whole_objective(manager.search().model(), 1);
+    while let Some(first) = next_candidate(manager) {
         show_manager(manager);
+        if is_within(manager, working, &limits.gap, whole, &first) {
+            return Ok(ended_with(jobs, end_within(limits.gap), results));
+        }
         if results == limits.nodes {
             return Ok(ended_with(jobs, Ended::Stopped(StopWhy::Nodes), results));
         }
@@ -106,7 +150,7 @@ fn go_on(
     Ok(ended_with(jobs, Ended::Finished, results))
 }
 
-/// Works open leaves until none is left. The turns of the manager's workers, of which none holds a leaf, are those that the words of
+/// Works open leaves until none is left, or all leaves are within the gap. The turns of the manager's workers, of which none holds a leaf, are those that the words of
 /// the seed say. At most `nodes` results are placed, and each relaxation has at most `pivots` moves. A relaxation whose leaf keeps no
 /// lawful basis begins at `first`. The search comes back; what workers held is let go. Where there is no memory the results that were
 /// placed stay, and the search can go on.
@@ -118,6 +162,7 @@ pub fn search_on(
     limits: &Limits,
 ) -> (Search, Result<Searched, AllocError>)
     requires idle { manager.held ≡ replicate limits.now.workers None }
+    requires gap { IsGapLimit limits.now.gap }
     requires ways { IsWayFor manager.search ways.now }
     requires first { IsFirstFor ways.now manager.search first.now }
     ensures found { IfOk result.1 (λ searched. Finds ways.now first.now (turn_order_of limits.now) limits.now.nodes limits.now.pivots manager.search result.0 searched) }

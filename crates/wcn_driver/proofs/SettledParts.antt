@@ -26,6 +26,7 @@ claimed_some P c (Some cert) h = refl
 
 can_end : (P : Program) (n : ℕ) (answer : Answer) (cert : Option Cert) → HasWholeObjective P 1 → IsTrueOf P n answer → IsLawful P → MatchOption cert (shown_claim answer ≡ None) (IsCertifiedAs P (shown_claim answer)) → CanEnd answer cert
 can_end P n (solve.Optimal v x here) cert whole is lawful certified = claimed_some P (claim.Optimal v) cert certified
+can_end P n (solve.Within g v x here) cert whole is lawful certified = is
 can_end P n (solve.Infeasible here) cert whole is lawful certified = claimed_some P claim.Infeasible cert certified
 can_end P n (solve.Unbounded here) cert whole is lawful certified = never_unbounded P lawful whole is.0
 can_end P n (solve.Stopped why here bound best) cert whole is lawful certified = tt
@@ -33,6 +34,7 @@ can_end P n solve.Memory cert whole is lawful certified = tt
 
 can : (P : Program) (n : ℕ) (answer : Answer) (cert : Option Cert) → (¬ IsEmpty P) → IsTrueOf P n answer → CanEnd answer cert → CanSettle answer cert
 can P n (solve.Optimal v x here) cert some is end = end
+can P n (solve.Within g v x here) cert some is end = end
 can P n (solve.Infeasible here) cert some is end = some is.0
 can P n (solve.Unbounded here) cert some is end = end
 can P n (solve.Stopped why here bound best) cert some is end = tt
@@ -41,6 +43,7 @@ can P n solve.Memory cert some is end = tt
 -- what can be settled has an end
 pub settled_end : (answer : Answer) (cert : Option Cert) → CanSettle answer cert → CanEnd answer cert
 settled_end (solve.Optimal v x here) cert can = can
+settled_end (solve.Within g v x here) cert can = can
 settled_end (solve.Infeasible here) cert can = absurd can
 settled_end (solve.Unbounded here) cert can = can
 settled_end (solve.Stopped why here bound best) cert can = tt
@@ -48,6 +51,7 @@ settled_end solve.Memory cert can = tt
 
 counts : (P : Program) (n before : ℕ) (answer : Answer) → IsTrueOf P n answer → before + n < 2 ^ 64 → CountsWithin before answer
 counts P n before (solve.Optimal v x here) is room = let few = is.1 in omega arith
+counts P n before (solve.Within g v x here) is room = absurd is
 counts P n before (solve.Infeasible here) is room = let few = is.1 in omega arith
 counts P n before (solve.Unbounded here) is room = let few = is.1 in omega arith
 counts P n before (solve.Stopped why here bound best) is room = let few = is.1 in omega arith

@@ -90,7 +90,7 @@ pub(crate) fn part_end(solved: Solved, before: u64) -> PartEnd
             drop(cert);
             PartEnd::Halted(Halt::Memory)
         }
-        Answer::Unbounded { .. } => unreachable!(),
+        Answer::Within { .. } | Answer::Unbounded { .. } => unreachable!(),
     }
 }
 

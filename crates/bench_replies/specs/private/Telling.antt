@@ -7,9 +7,9 @@ use Rattle.sound_searches.specs.Sound.{PlainSearch}
 use Rattle.kept_env.specs.Env.{PlainEnv, model_of}
 use Rattle.kept_env.specs.declared.env.EnvFault.{EnvFault}
 use Rattle.kept_env.specs.declared.held.Held.{Held}
-use Rattle.kept_env.specs.declared.held.Held.TheVariants.{Nothing, Finished, Unbounded, Front, Infeasible}
+use Rattle.kept_env.specs.declared.held.Held.TheVariants.{Nothing, Finished, Within, Unbounded, Front, Infeasible}
 use Rattle.reply_texts.specs.Texts.{answer_text}
-use Rattle.cert_commands.specs.Certificates.{IsCertificateText, IsUnboundedText, IsFrontText, IsEmptinessText}
+use Rattle.cert_commands.specs.Certificates.{IsCertificateText, IsWithinText, IsUnboundedText, IsFrontText, IsEmptinessText}
 use Rattle.bench_replies.specs.Benches.{head_line, IsFirstLine, cert_line}
 
 abbrev pub is_wanting : Answer → Bool
@@ -24,6 +24,7 @@ abbrev pub WritesCert : Option PlainSearch → Held → List ℕ → List ℕ �
 WritesCert None held old new = ⊥
 WritesCert (Some S) Nothing old new = new ≡ old ++ cert_line false
 WritesCert (Some S) Finished old new = (new ≡ old ++ cert_line true) × ((text : List ℕ) × IsCertificateText S text)
+WritesCert (Some S) (Within g) old new = (new ≡ old ++ cert_line true) × ((text : List ℕ) × IsWithinText S g text)
 WritesCert (Some S) (Unbounded ray) old new = (new ≡ old ++ cert_line true) × ((text : List ℕ) × IsUnboundedText S ray text)
 WritesCert (Some S) (Front cert) old new = (new ≡ old ++ cert_line true) × ((text : List ℕ) × IsFrontText S.model cert text)
 WritesCert (Some S) (Infeasible cert) old new = (new ≡ old ++ cert_line true) × ((text : List ℕ) × IsEmptinessText S.model cert text)

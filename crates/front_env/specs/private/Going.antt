@@ -2,7 +2,7 @@
 use Rattle.std.specs.Prelude.{◌≡◌, ℕ, ◌+◌, ◌<◌, ◌≤◌, ◌^◌, length}
 use Rattle.lp_model.specs.Program.{Program}
 use Rattle.search_answers.specs.declared.answers.Answer.{Answer}
-use Rattle.search_answers.specs.declared.answers.Answer.TheVariants.{Optimal, Infeasible, Unbounded, Stopped, Memory}
+use Rattle.search_answers.specs.declared.answers.Answer.TheVariants.{Optimal, Within, Infeasible, Unbounded, Stopped, Memory}
 use Rattle.kept_env.specs.Env.{PlainEnv}
 use Rattle.tree_search.specs.declared.limits.Limits.{Limits}
 use Rattle.front_solver.specs.Truth.{IsTrueOf, IsStop, shown_claim}
@@ -18,6 +18,7 @@ pub record AreAlike (M N : Program) : Type 0 where
 -- the results can be counted beside those before
 abbrev pub CountsBehind : ℕ → Answer → Type 0
 CountsBehind before (Optimal v x n) = before + n < 2 ^ 64
+CountsBehind before (Within g v x n) = before + n < 2 ^ 64
 CountsBehind before (Infeasible n) = before + n < 2 ^ 64
 CountsBehind before (Unbounded n) = before + n < 2 ^ 64
 CountsBehind before (Stopped why n bound best) = before + n < 2 ^ 64
@@ -26,6 +27,7 @@ CountsBehind before Memory = Unit {0}
 -- a stop after so many results
 abbrev pub StopsAfter : ℕ → Answer → Type 0
 StopsAfter results (Optimal v x n) = ⊥
+StopsAfter results (Within g v x n) = ⊥
 StopsAfter results (Infeasible n) = ⊥
 StopsAfter results (Unbounded n) = ⊥
 StopsAfter results (Stopped why n bound best) = results ≡ n

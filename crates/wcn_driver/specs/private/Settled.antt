@@ -21,6 +21,7 @@ use Rattle.wcn_driver.specs.Answers.{StopsAtPart, IsFirstWideScale}
 -- there is an optimum or that no point is feasible, with a certificate, or a stop
 abbrev pub CanEnd : Answer → Option Cert → Type 0
 CanEnd (solve.Optimal v x n) cert = IsSome cert
+CanEnd (solve.Within g v x n) cert = ⊥
 CanEnd (solve.Infeasible n) cert = IsSome cert
 CanEnd (solve.Unbounded n) cert = ⊥
 CanEnd (solve.Stopped why n bound best) cert = Unit {0}
@@ -29,6 +30,7 @@ CanEnd solve.Memory cert = Unit {0}
 -- there is an optimum with its certificate, or a stop
 abbrev pub CanSettle : Answer → Option Cert → Type 0
 CanSettle (solve.Optimal v x n) cert = IsSome cert
+CanSettle (solve.Within g v x n) cert = ⊥
 CanSettle (solve.Infeasible n) cert = ⊥
 CanSettle (solve.Unbounded n) cert = ⊥
 CanSettle (solve.Stopped why n bound best) cert = Unit {0}
@@ -37,6 +39,7 @@ CanSettle solve.Memory cert = Unit {0}
 -- the results can be counted beside those before
 abbrev pub CountsWithin : ℕ → Answer → Type 0
 CountsWithin before (solve.Optimal v x n) = before + n < 2 ^ 64
+CountsWithin before (solve.Within g v x n) = before + n < 2 ^ 64
 CountsWithin before (solve.Infeasible n) = before + n < 2 ^ 64
 CountsWithin before (solve.Unbounded n) = before + n < 2 ^ 64
 CountsWithin before (solve.Stopped why n bound best) = before + n < 2 ^ 64

@@ -16,3 +16,12 @@ write_optimal-requires-clause-shape c = (subst (AnswerIsShaped c.args.model.now)
 
 pub write_optimal-requires-clause-best : goal.write_optimal-requires-clause-best
 write_optimal-requires-clause-best c = (subst (AnswerIsShaped c.args.model.now) c.in-Optimal.is c.requires).1
+
+pub returns-in-Within : goal.returns-in-Within
+returns-in-Within c = subst (λ (a : Answer). IfOk c.write_within.result (λ _. c.write_within.new.reply.items ≡ c.args.reply.now.items ++ answer_text c.args.model.now a)) (sym c.in-Within.is) c.write_within.ensures
+
+pub write_within-requires-clause-shape : goal.write_within-requires-clause-shape
+write_within-requires-clause-shape c = (subst (AnswerIsShaped c.args.model.now) c.in-Within.is c.requires).0
+
+pub write_within-requires-clause-best : goal.write_within-requires-clause-best
+write_within-requires-clause-best c = (subst (AnswerIsShaped c.args.model.now) c.in-Within.is c.requires).1

@@ -11,7 +11,7 @@ give-requires c =
     let S = c.in-Some.search in
     let T = c.solve_search-search.result.search in
     let found = c.solve_search-search.result in
-    subst (IsHeld (Some T)) (sym c.held_by-held.ensures) (solves-held S.model c.args.limits.now S found.answer found.ray T c.solve_search-search.ensures.solves c.solve_search-search.ensures.ray)
+    subst (IsHeld (Some T)) (sym c.held_by-held.ensures) (solves-held S.model c.args.limits.now c.requires.gap S found.answer found.ray T c.solve_search-search.ensures.solves c.solve_search-search.ensures.ray)
 
 pub returns-clause-solves : goal.returns-clause-solves
 returns-clause-solves c =

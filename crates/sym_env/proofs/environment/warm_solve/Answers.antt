@@ -13,7 +13,7 @@ give-requires c =
     let T = c.warm_search-search.result.search in
     let l = c.args.limits.now in
     let found = c.warm_search-search.result in
-    subst (IsHeld (Some T)) (sym c.held_by-held.ensures) (warms-held l (search_with_limit S l.tree) found.answer T found.ray c.warm_search-search.ensures.warms c.warm_search-search.ensures.model c.warm_search-search.ensures.ray)
+    subst (IsHeld (Some T)) (sym c.held_by-held.ensures) (warms-held l (search_with_limit S l.tree) found.answer T c.requires.gap found.ray c.warm_search-search.ensures.warms c.warm_search-search.ensures.model c.warm_search-search.ensures.ray)
 
 pub returns-clause-warms : goal.returns-clause-warms
 returns-clause-warms c =

@@ -1,8 +1,6 @@
-use Rattle.std.specs.Prelude.{◌≡◌}
-use Rattle.std.proofs.Common.{sym, subst, ap}
+use Rattle.std.proofs.Common.{sym, subst}
 use Rattle.search_answers.specs.declared.answers.Answer.TheVariants.{Memory}
 use Rattle.sound_searches.specs.Sound.{PlainSearch}
-use Rattle.tree_manager.specs.Managers.{PlainManager}
 use Rattle.tree_search.specs.Warm.{Went}
 use Rattle.sym_env.proofs.SolveLemmas.{wants-first}
 use Rattle.sym_env.proofs.solving.search_with.Goals as goal

@@ -13,7 +13,7 @@ finished-answer-requires c = no-leaf_open c.args.search (subst (IsNext c.args.se
 pub resume-requires : goal.resume-requires
 resume-requires c =
     let S = c.args.search in
-    record { workers = c.requires.workers; some = next-open_leaf S c.in-Some.field-0 (subst IsNumbered c.tree.ensures.tree c.nodes-numbered.ensures.numbered) (subst (IsNext S) c.in-Some.is c.next_leaf.ensures) }
+    record { workers = c.requires.workers; gap = c.requires.gap; some = next-open_leaf S c.in-Some.field-0 (subst IsNumbered c.tree.ensures.tree c.nodes-numbered.ensures.numbered) (subst (IsNext S) c.in-Some.is c.next_leaf.ensures) }
 
 pub returns-in-None-clause-warms : goal.returns-in-None-clause-warms
 returns-in-None-clause-warms c = Still (no-leaf_open c.args.search (subst (IsNext c.args.search) c.in-None.is c.next_leaf.ensures)) refl c.finished-answer.ensures

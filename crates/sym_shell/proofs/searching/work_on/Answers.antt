@@ -1,6 +1,13 @@
+use Rattle.std.proofs.Common.{sym, subst}
+use Rattle.tree_search.specs.Within.{IsGapLimit}
+use Rattle.tree_search.specs.declared.limits.Limits.{Limits}
 use Rattle.search_replies.specs.Solve.{limits_of}
 use Rattle.search_replies.proofs.ReplyLemmas.{is-warmed, warmed-shaped}
+use Rattle.sym_shell.proofs.StepLemmas.{gap-limit}
 use Rattle.sym_shell.proofs.searching.work_on.Goals as goal
+
+pub warm_solve-answer-requires-clause-gap : goal.warm_solve-answer-requires-clause-gap
+warm_solve-answer-requires-clause-gap c = subst (λ (l : Limits). IsGapLimit l.gap) (sym c.limits_of.ensures) (gap-limit c.args.options.gap c.requires.gap)
 
 pub tell_warmed-requires-clause-answer : goal.tell_warmed-requires-clause-answer
 tell_warmed-requires-clause-answer c =

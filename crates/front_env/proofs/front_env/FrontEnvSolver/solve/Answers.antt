@@ -8,6 +8,12 @@ use Rattle.front_env.specs.FrontEnvs.{PlainFrontEnv, program_in, program_of, wit
 use Rattle.front_env.proofs.Behind.{behind_true, stopped_behind}
 use Rattle.front_env.proofs.front_env.FrontEnvSolver.solve.Goals as goal
 
+pub go_on-requires-clause-plain : goal.go_on-requires-clause-plain
+go_on-requires-clause-plain c = ap (λ (l : Limits). l.gap) c.with_results-limits.ensures
+
+pub solved_anew-answer-requires-clause-plain : goal.solved_anew-answer-requires-clause-plain
+solved_anew-answer-requires-clause-plain c = ap (λ (l : Limits). l.gap) c.with_results-rest.ensures
+
 pub returns-in-Stopped-clause-true_of : goal.returns-in-Stopped-clause-true_of
 returns-in-Stopped-clause-true_of c =
     let n = c.args.nodes in
