@@ -170,7 +170,7 @@ module _ (v : Parts) (entries' : Listed) (row place : ℕ) (row_within : row < v
     listed = after.listed;
     coefficients_length = partial.coefficients_length;
     positive = partial.positive;
-    denominator = subst (λ d. magnitude d <ℤ v.limit) (sym after.denominator) (partial.numbers row place row_within place_within row_written);
+    denominator = after.denominator;
     numbers = after.within;
     heaviest = partial.heaviest;
     room = partial.room;

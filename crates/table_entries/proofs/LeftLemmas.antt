@@ -1,6 +1,6 @@
 -- Rows that an exchange leaves alone are those of the table after it.
-use Rattle.std.specs.Prelude.{◌≡◌, ◌≢◌, ℕ, ◌+◌, ◌*◌, ◌/◌, ◌%◌, ◌<◌, ◌==◌, ◌<ℤ◌, Bool, true, false, List, [], ◌∷◌, get_or, set, length, ℤ, pos, negsuc}
-use Rattle.std.proofs.Common.{refl, sym, ap, subst, ◌∙◌, ⊎_elim, inr, arith, below_more}
+use Rattle.std.specs.Prelude.{◌≡◌, ◌≢◌, ℕ, ◌+◌, ◌*◌, ◌/◌, ◌%◌, ◌<◌, ◌==◌, ◌<ℤ◌, Bool, true, false, List, [], ◌∷◌, get_or, set, length, ℤ, pos}
+use Rattle.std.proofs.Common.{refl, sym, ap, subst, ◌∙◌, ⊎_elim, arith, below_more}
 use Rattle.std.proofs.lemmas.List.{get_or-set_same, get_or-set_other}
 use Rattle.std.proofs.lemmas.Bool.Decides.{Decides-eqb}
 use Rattle.std.proofs.lemmas.Nat.{div-add-mod'}
@@ -12,12 +12,12 @@ use Rattle.frac128.proofs.Whole.{Fits-zero}
 use Rattle.table_entries.specs.Relaxation.{pivoted_entry}
 use Rattle.table_entries.specs.Steps.{EntryFits}
 use Rattle.table_entries.specs.FlatSteps.{dense_entry}
-use Rattle.table_entries.specs.WholeSteps.{IsShort, IsWholeStep, WholeAt, AreShort, AreWithin, AreWritten, by_sign, is_unwritten, magnitude, whole_number_at}
+use Rattle.table_entries.specs.WholeSteps.{IsShort, IsWholeStep, WholeAt, AreShort, AreWithin, AreWritten, is_unwritten, magnitude, whole_number_at}
 use Rattle.table_entries.specs.private.RowSteps.{MovedFits, moved_value, IsLeftAlone, IsTakenRow}
 use Rattle.table_entries.specs.private.LeftRows.{IsWholeLeft, AreLeft}
 use Rattle.table_entries.proofs.RowLemmas.{unmoved_factor, moved_fits, moved_is, other_test, all_rows, rows_apart}
 use Rattle.table_entries.proofs.PivotLemmas.{flat_within}
-use Rattle.table_entries.proofs.WholeLemmas.{whole_place, whole_kept, step_at}
+use Rattle.table_entries.proofs.WholeLemmas.{left_step, step_at}
 
 -- ---- fractions
 
@@ -75,7 +75,7 @@ taken_rows n m r s entries next new r_within written fits taken i k p q =
 -- ---- numbers over one denominator, which stays
 
 module _ (m n r s : ℕ) (d : ℤ) (numbers : List ℤ) (unwritten marks : List Bool) (next new : List ℤ) (r_within : r < m) (s_within : s < n) (size : length numbers ≡ m * n)
-    (short : AreShort numbers) (d_positive : pos 0 <ℤ d) (d_short : IsShort d) (some : whole_number_at numbers (r * n + s) ≢ pos 0) (stays : magnitude (whole_number_at numbers (r * n + s)) ≡ d)
+    (short : AreShort numbers) (d_positive : pos 0 <ℤ d) (d_short : IsShort d) (some : whole_number_at numbers (r * n + s) ≢ pos 0)
     (left : AreLeft m n r s numbers unwritten marks) where
   abbrev p : ℤ
   p = whole_number_at numbers (r * n + s)
@@ -83,30 +83,20 @@ module _ (m n r s : ℕ) (d : ℤ) (numbers : List ℤ) (unwritten marks : List 
   short_at : (i k : ℕ) → i < m → k < n → IsShort (whole_number_at numbers (i * n + k))
   short_at i k w v = short (i * n + k) (subst (λ x. i * n + k < x) (sym size) (flat_within n m i k w v))
 
-  signed_nothing : (q e : ℤ) → e ≡ pos 0 → by_sign q e ≡ e
-  signed_nothing q e none = ap (by_sign q) none ∙ of_nothing q ∙ sym none
-    where
-      of_nothing : (q : ℤ) → by_sign q (pos 0) ≡ pos 0
-      of_nothing (pos q) = refl
-      of_nothing (negsuc q) = refl
+  kept_by : (i k : ℕ) → i < m → k < n → IsWholeLeft n r s numbers i
+      → IsWholeStep (i == r) (k == s) d d p (whole_number_at numbers (r * n + k)) (whole_number_at numbers (i * n + s)) (whole_number_at numbers (i * n + k)) (whole_number_at numbers (i * n + k))
+  kept_by i k w v alone =
+      step_at (i == r) (k == s) false (k == s) d d p _ _ _ (whole_number_at numbers (i * n + k)) (whole_number_at numbers (i * n + k)) (other_test i r alone.other) refl refl
+      (left_step d p d_positive some d_short (short_at r s r_within s_within) _ _ _ (short_at r k r_within v) (short_at i s w s_within) (short_at i k w v) alone.nothing (k == s)
+      (λ e. ap (λ j. whole_number_at numbers (i * n + j)) ((Decides-eqb k s).0 e)))
 
-  kept_by : (i k : ℕ) → i < m → k < n → IsWholeLeft n r s numbers i → (b : Bool) → (k == s) ≡ b
-      → IsWholeStep (i == r) b d p (whole_number_at numbers (r * n + k)) (whole_number_at numbers (i * n + s)) (whole_number_at numbers (i * n + k)) (whole_number_at numbers (i * n + k))
-  kept_by i k w v alone true e =
-      let same : whole_number_at numbers (i * n + k) ≡ whole_number_at numbers (i * n + s) = ap (λ j. whole_number_at numbers (i * n + j)) ((Decides-eqb k s).0 e) in
-      step_at (i == r) true false true d p _ _ _ (by_sign p (whole_number_at numbers (i * n + s))) (whole_number_at numbers (i * n + k)) (other_test i r alone.other) refl (same ∙ sym (signed_nothing p _ alone.nothing))
-      (whole_place d p d_positive some d_short (short_at r s r_within s_within) (whole_number_at numbers (r * n + k)) (whole_number_at numbers (i * n + s)) (whole_number_at numbers (i * n + k)) (short_at i s w s_within))
-  kept_by i k w v alone false e =
-      step_at (i == r) false false false d p _ _ _ (whole_number_at numbers (i * n + k)) (whole_number_at numbers (i * n + k)) (other_test i r alone.other) refl refl
-      (whole_kept d p d_positive some d_short (short_at r s r_within s_within) _ _ _ (short_at r k r_within v) (short_at i s w s_within) (short_at i k w v) (inr stays) (inr alone.nothing))
-
-  module _ (written : AreWritten n r s d numbers marks next (m * n))
+  module _ (written : AreWritten n r s d d numbers marks next (m * n))
       (taken : (i k : ℕ) → i < m → k < n → is_unwritten marks i ≡ false → whole_number_at new (i * n + k) ≡ whole_number_at next (i * n + k))
       (kept : (i k : ℕ) → i < m → k < n → is_unwritten marks i ≡ true → whole_number_at new (i * n + k) ≡ whole_number_at numbers (i * n + k)) where
     some_columns : 0 < n
     some_columns = omega (arith, s_within)
 
-    pub left_written : AreWritten n r s d numbers unwritten new (m * n)
+    pub left_written : AreWritten n r s d d numbers unwritten new (m * n)
     left_written at less flag = by (is_unwritten marks (at / n)) refl
       where
         back : at / n * n + at % n ≡ at
@@ -118,16 +108,16 @@ module _ (m n r s : ℕ) (d : ℤ) (numbers : List ℤ) (unwritten marks : List 
         k_within : at % n < n
         k_within = mod-lt at some_columns
 
-        by : (b : Bool) → is_unwritten marks (at / n) ≡ b → WholeAt n r s d numbers (whole_number_at new at) at
+        by : (b : Bool) → is_unwritten marks (at / n) ≡ b → WholeAt n r s d d numbers (whole_number_at new at) at
         by false e =
             let same : whole_number_at next at ≡ whole_number_at new at = ap (whole_number_at next) (sym back) ∙ sym (taken (at / n) (at % n) i_within k_within e) ∙ ap (whole_number_at new) back in
-            subst (λ x. WholeAt n r s d numbers x at) same (written at less e)
+            subst (λ x. WholeAt n r s d d numbers x at) same (written at less e)
         by true e =
             let alone = left.left (at / n) i_within e flag in
             let same : whole_number_at numbers (at / n * n + at % n) ≡ whole_number_at new at = sym (kept (at / n) (at % n) i_within k_within e) ∙ ap (whole_number_at new) back in
-            subst (λ x. IsWholeStep (at / n == r) (at % n == s) d p (whole_number_at numbers (r * n + at % n)) (whole_number_at numbers (at / n * n + s)) (whole_number_at numbers at) x) same
-            (subst (λ a. IsWholeStep (at / n == r) (at % n == s) d p (whole_number_at numbers (r * n + at % n)) (whole_number_at numbers (at / n * n + s)) (whole_number_at numbers a) (whole_number_at numbers (at / n * n + at % n))) back
-            (kept_by (at / n) (at % n) i_within k_within alone (at % n == s) refl))
+            subst (λ x. IsWholeStep (at / n == r) (at % n == s) d d p (whole_number_at numbers (r * n + at % n)) (whole_number_at numbers (at / n * n + s)) (whole_number_at numbers at) x) same
+            (subst (λ a. IsWholeStep (at / n == r) (at % n == s) d d p (whole_number_at numbers (r * n + at % n)) (whole_number_at numbers (at / n * n + s)) (whole_number_at numbers a) (whole_number_at numbers (at / n * n + at % n))) back
+            (kept_by (at / n) (at % n) i_within k_within alone))
 
     pub left_within : (limit : ℤ) → AreWithin m n unwritten limit numbers → AreWithin m n marks limit next → AreWithin m n unwritten limit new
     left_within limit before after i k p q flag = by (is_unwritten marks i) refl

@@ -22,6 +22,7 @@ pub mod StepLemmas
 pub mod PivotLemmas
 pub mod ReadLemmas
 pub mod WholeLemmas
+pub mod WayLemmas
 pub mod WholeListLemmas
 pub mod ListedLemmas
 pub mod RowLemmas

@@ -18,7 +18,6 @@ use Rattle.table_entries.specs.WholeSteps.{IsShort, IsWholeStep, magnitude, whol
 use Rattle.table_entries.specs.Listed.{Listed, over, listed_costs, AreOver, IsListed, IsStored, IsShortWhole, IsExchangedList}
 use Rattle.table_entries.specs.private.Listed.{ArePartsExchanged}
 use Rattle.whole_sums.proofs.SumLemmas.{zero_over}
-use Rattle.table_entries.proofs.WholeLemmas.{magnitude_positive}
 use Rattle.table_entries.proofs.PivotLemmas.{flat_within}
 use Rattle.table_entries.proofs.RowLemmas.{flat_fits, flat_written}
 use Rattle.table_entries.proofs.WholeListLemmas.{short_more}
@@ -86,47 +85,41 @@ set_over d ns at n are short = record { positive = are.positive; denominator_sho
 
 -- ---- after an exchange
 
-module _ (m n r s : ℕ) (r_within : r < m) (s_within : s < n) (d : ℤ) (ns : List ℤ) (unwritten : List Bool) (next : List ℤ) (are : AreOver d ns) (size : length ns ≡ m * n) (kept : length next ≡ m * n)
-    (some : whole_number_at ns (r * n + s) ≢ pos 0) (next_short : AreShort next) (written : AreWritten n r s d ns unwritten next (m * n)) where
-  abbrev p : ℤ
-  p = whole_number_at ns (r * n + s)
-
-  pub over_after : AreOver (magnitude p) next
-  over_after = record {
-    positive = magnitude_positive p some;
-    denominator_short = are.short (r * n + s) (subst (λ k. r * n + s < k) (sym size) (flat_within n m r s r_within s_within));
-    short = next_short;
-  }
+module _ (m n r s : ℕ) (r_within : r < m) (s_within : s < n) (d after : ℤ) (ns : List ℤ) (unwritten : List Bool) (next : List ℤ) (are : AreOver d ns) (size : length ns ≡ m * n) (kept : length next ≡ m * n)
+    (after_positive : pos 0 <ℤ after) (after_short : IsShort after) (next_short : AreShort next) (written : AreWritten n r s d after ns unwritten next (m * n)) where
+  pub over_after : AreOver after next
+  over_after = record { positive = after_positive; denominator_short = after_short; short = next_short }
 
   abbrev old_entry : ℕ → ℕ → ℚ
   old_entry = dense_entry n (over d ns)
 
   abbrev new_entry : ℕ → ℕ → ℚ
-  new_entry = dense_entry n (over (magnitude p) next)
+  new_entry = dense_entry n (over after next)
 
   read : (at : ℕ) → quotient_of (whole_number_at ns at) d ≡ get_or (over d ns) at (int (pos 0))
   read at = sym (over_at d ns are.positive at)
 
   whole_at : (i k : ℕ) → i < m → k < n → is_unwritten unwritten i ≡ false
-      → IsWholeStep (i == r) (k == s) d p (whole_number_at ns (r * n + k)) (whole_number_at ns (i * n + s)) (whole_number_at ns (i * n + k)) (whole_number_at next (i * n + k))
+      → IsWholeStep (i == r) (k == s) d after (whole_number_at ns (r * n + s)) (whole_number_at ns (r * n + k)) (whole_number_at ns (i * n + s)) (whole_number_at ns (i * n + k)) (whole_number_at next (i * n + k))
   whole_at i k i_within k_within flag =
       let row_is : (i * n + k) / n ≡ i = div-mul-add i n k k_within in
       let place_is : (i * n + k) % n ≡ k = mod-mul-add i n k k_within in
-      subst (λ X. X) (λ j. IsWholeStep (row_is j == r) (place_is j == s) d p (whole_number_at ns (r * n + place_is j)) (whole_number_at ns (row_is j * n + s)) (whole_number_at ns (i * n + k)) (whole_number_at next (i * n + k)))
+      subst (λ X. X)
+      (λ j. IsWholeStep (row_is j == r) (place_is j == s) d after (whole_number_at ns (r * n + s)) (whole_number_at ns (r * n + place_is j)) (whole_number_at ns (row_is j * n + s)) (whole_number_at ns (i * n + k)) (whole_number_at next (i * n + k)))
       (written (i * n + k) (flat_within n m i k i_within k_within) (ap (is_unwritten unwritten) row_is ∙ flag))
 
   part_entry : (i k : ℕ) → i < m → k < n → is_unwritten unwritten i ≡ false → new_entry i k ≡ pivoted_entry old_entry r s i k
   part_entry i k i_within k_within flag =
-      over_at (magnitude p) next (magnitude_positive p some) (i * n + k) ∙ (whole_at i k i_within k_within flag).value
+      over_at after next after_positive (i * n + k) ∙ (whole_at i k i_within k_within flag).value
       ∙ (λ j. step_value (i == r) (k == s) (read (r * n + s) j) (read (r * n + k) j) (read (i * n + s) j) (read (i * n + k) j))
 
   part_fits : (i k : ℕ) → i < m → k < n → is_unwritten unwritten i ≡ false → EntryFits old_entry r s i k
   part_fits i k i_within k_within flag =
       subst (λ X. X) (λ j. PivotStepFits (i == r) (k == s) (read (r * n + s) j) (read (r * n + k) j) (read (i * n + s) j) (read (i * n + k) j)) (whole_at i k i_within k_within flag).fits
 
-  pub parts_exchanged : (limit : ℤ) (old new : Listed) → old.list ≡ over d ns → old.numbers ≡ ns → new.is_whole ≡ true → new.list ≡ over (magnitude p) next → new.denominator ≡ magnitude p → new.numbers ≡ next
+  pub parts_exchanged : (limit : ℤ) (old new : Listed) → old.list ≡ over d ns → old.numbers ≡ ns → new.is_whole ≡ true → new.list ≡ over after next → new.denominator ≡ after → new.numbers ≡ next → magnitude after <ℤ limit
       → AreWithin m n unwritten limit next → ArePartsExchanged m n r s unwritten limit old new
-  parts_exchanged limit old new old_list old_numbers form new_list new_denominator new_numbers within = record {
+  parts_exchanged limit old new old_list old_numbers form new_list new_denominator new_numbers slim within = record {
     whole = form;
     listed = record {
       are_over = subst₂ AreOver (sym new_denominator) (sym new_numbers) over_after;
@@ -135,8 +128,8 @@ module _ (m n r s : ℕ) (r_within : r < m) (s_within : s < n) (d : ℤ) (ns : L
     entry = λ i k i_within k_within flag. subst₂ (λ xs ys. dense_entry n ys i k ≡ pivoted_entry (dense_entry n xs) r s i k) (sym old_list) (sym new_list) (part_entry i k i_within k_within flag);
     fits = λ i k i_within k_within flag. subst (λ xs. EntryFits (dense_entry n xs) r s i k) (sym old_list) (part_fits i k i_within k_within flag);
     within = subst (AreWithin m n unwritten limit) (sym new_numbers) within;
-    denominator = new_denominator ∙ ap (λ xs. magnitude (whole_number_at xs (r * n + s))) (sym old_numbers);
-    size = ap length new_list ∙ length-map next (λ x. quotient_of x (magnitude p)) ∙ kept ∙ sym size ∙ sym (length-map ns (λ x. quotient_of x d)) ∙ sym (ap length old_list);
+    denominator = subst (λ x. magnitude x <ℤ limit) (sym new_denominator) slim;
+    size = ap length new_list ∙ length-map next (λ x. quotient_of x after) ∙ kept ∙ sym size ∙ sym (length-map ns (λ x. quotient_of x d)) ∙ sym (ap length old_list);
     numbers_size = ap length new_numbers ∙ kept ∙ sym size ∙ sym (ap length old_numbers);
   }
 

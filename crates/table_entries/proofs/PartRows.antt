@@ -1,5 +1,5 @@
 -- The entries of all rows stay where a row is written, are the list's where all rows are, and are the coefficients at the slack basis.
-use Rattle.std.specs.Prelude.{◌≡◌, ◌≢◌, ℕ, ◌+◌, ◌-◌, ◌*◌, ◌/◌, ◌%◌, ◌<◌, ◌==◌, ltb, if◌then◌else◌, List, get_or, length, set, ℤ, pos, unsigned_abs, Bool, true, false}
+use Rattle.std.specs.Prelude.{◌≡◌, ◌≢◌, ℕ, ◌+◌, ◌-◌, ◌*◌, ◌/◌, ◌%◌, ◌<◌, ◌≤◌, ◌==◌, ltb, if◌then◌else◌, List, get_or, length, set, ℤ, pos, unsigned_abs, Bool, true, false}
 use Rattle.std.proofs.Common.{refl, sym, ap, subst, ◌∙◌, ⊎_elim, arith, below_more}
 use Rattle.std.proofs.lemmas.Bool.{cases_eq, le-ltb}
 use Rattle.std.proofs.lemmas.Nat.{div-add-mod'}
@@ -14,7 +14,7 @@ use Rattle.table_entries.specs.FlatSteps.{dense_entry}
 use Rattle.table_entries.specs.WholeSteps.{whole_number_at, is_unwritten}
 use Rattle.table_entries.specs.Listed.{Listed, IsListed}
 use Rattle.table_entries.specs.Parts.{slot_entry, unwritten_entry, row_coefficient, any_entry, listed_entries}
-use Rattle.table_entries.specs.private.Parts.{slot_number, unwritten_number, IsLight, IsRowTouched}
+use Rattle.table_entries.specs.private.Parts.{slot_number, combined, unwritten_number, IsLight, IsRowTouched}
 use Rattle.table_entries.proofs.RowLemmas.{rows_apart}
 use Rattle.table_entries.proofs.PartNumbers.{entry_is, unwritten_value, combined_same}
 use Rattle.table_entries.proofs.PartExchange.{listed_get, listed_length}
@@ -24,12 +24,17 @@ use Rattle.table_entries.proofs.PartExchange.{listed_get, listed_length}
 -- numbers have changed in one row, in which no column stands
 module _ (m n : ℕ) (coefficients : List ℤ) (slots : ℕ → ℕ) (row : ℕ) (old new : Listed) (was : IsListed old) (touched : IsRowTouched n row old new)
     (apart : (j : ℕ) → j < n → slots j ≢ row) where
-  number_same : (slot k : ℕ) → slot ≢ row → k < n → slot_number m n new slot k ≡ slot_number m n old slot k
+  pub number_same : (slot k : ℕ) → slot ≢ row → k < n → slot_number m n new slot k ≡ slot_number m n old slot k
   number_same slot k other q = λ z. if ltb slot m then touched.others slot k other q z else (if k == slot - m then touched.denominator z else pos 0)
 
   -- rows that are not written keep their numbers
   pub number_still : (i k : ℕ) → k < n → unwritten_number m n new coefficients slots i k ≡ unwritten_number m n old coefficients slots i k
   number_still i k q = combined_same (row_coefficient n coefficients i) (λ j. slot_number m n new (slots j) k) (λ j. slot_number m n old (slots j) k) n (λ j w. number_same (slots j) k (apart j w) q)
+
+  -- and so do the sums of the terms of some columns
+  pub front_still : (i k end : ℕ) → k < n → end ≤ n → combined (row_coefficient n coefficients i) (λ j. slot_number m n new (slots j) k) end ≡ combined (row_coefficient n coefficients i) (λ j. slot_number m n old (slots j) k) end
+  front_still i k end q within =
+      combined_same (row_coefficient n coefficients i) (λ j. slot_number m n new (slots j) k) (λ j. slot_number m n old (slots j) k) end (λ j w. number_same (slots j) k (apart j (omega (arith, w, within))) q)
 
   pub light_still : (i : ℕ) → IsLight m n old coefficients slots i → IsLight m n new coefficients slots i
   light_still i h = record {
@@ -86,6 +91,16 @@ touched_more n row k at number old now new within at_is before form listed denom
       ∙ get_or-set_other now.numbers at (i * n + l) number (pos 0) (λ e. rows_apart n i row l k other q within (e ∙ at_is)) ∙ before.others i l other q;
 }
 
+-- numbers have changed in the row, and then again
+pub touched_both : (n row : ℕ) (old now new : Listed) → IsRowTouched n row old now → IsRowTouched n row now new → IsRowTouched n row old new
+touched_both n row old now new first then_ = record {
+  form = then_.form;
+  listed = then_.listed;
+  denominator = then_.denominator ∙ first.denominator;
+  size = then_.size ∙ first.size;
+  others = λ i k other q. then_.others i k other q ∙ first.others i k other q;
+}
+
 pub touched_none : (n row : ℕ) (old : Listed) → old.is_whole ≡ true → IsListed old → IsRowTouched n row old old
 touched_none n row old form listed = record { form = form; listed = listed; denominator = refl; size = refl; others = λ i k other q. refl }
 
@@ -96,6 +111,12 @@ written_more n row k at number now new P at_is within numbers is before =
     below_more (λ l. whole_number_at new.numbers (row * n + l) ≡ P l) k
     (λ l less. ap (λ xs. whole_number_at xs (row * n + l)) numbers ∙ get_or-set_other now.numbers at (row * n + l) number (pos 0) (λ e. omega (arith, e, less, at_is)) ∙ before l less)
     (ap (λ xs. whole_number_at xs (row * n + k)) numbers ∙ ap (λ x. whole_number_at (set now.numbers at number) x) (sym at_is) ∙ get_or-set_same now.numbers at number (pos 0) within ∙ is)
+
+-- and behind it, where it stays
+pub rest_more : (n row k at : ℕ) (number : ℤ) (now new : Listed) (P : ℕ → ℤ) → at ≡ row * n + k → new.numbers ≡ set now.numbers at number
+    → ((l : ℕ) → k ≤ l → l < n → whole_number_at now.numbers (row * n + l) ≡ P l) → (l : ℕ) → k + 1 ≤ l → l < n → whole_number_at new.numbers (row * n + l) ≡ P l
+rest_more n row k at number now new P at_is numbers before l past q =
+    ap (λ xs. whole_number_at xs (row * n + l)) numbers ∙ get_or-set_other now.numbers at (row * n + l) number (pos 0) (λ e. omega (arith, e, past, at_is)) ∙ before l (omega (arith, past)) q
 
 -- flags but for one
 pub flag_same : (flags : List Bool) (row : ℕ) (b : Bool) → row < length flags → is_unwritten (set flags row b) row ≡ b

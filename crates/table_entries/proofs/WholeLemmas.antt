@@ -1,13 +1,13 @@
--- The entries after an exchange over a common denominator.
-use Rattle.std.specs.Prelude.{◌≡◌, ◌≢◌, ◌⊎◌, ℕ, zero, suc, ◌-◌, ◌^◌, ◌<◌, ◌≤◌, [], ◌∷◌, ◌<ℤ◌, ℤ, pos, negsuc, ◌+ℤ◌, ◌-ℤ◌, ◌*ℤ◌, unsigned_abs, Bool, true, false}
+-- The entries after an exchange over a common denominator, from what is divided and by what.
+use Rattle.std.specs.Prelude.{◌≡◌, ◌≢◌, ℕ, zero, suc, ◌-◌, ◌^◌, ◌<◌, ◌≤◌, [], ◌∷◌, ◌<ℤ◌, ℤ, pos, negsuc, ◌+ℤ◌, ◌-ℤ◌, ◌*ℤ◌, unsigned_abs, Bool, true, false}
 use Rattle.std.specs.Int.{◌∣◌}
-use Rattle.std.proofs.Common.{refl, sym, ap, subst, ◌∙◌, ⊎_elim, inr, arith}
+use Rattle.std.proofs.Common.{refl, sym, ap, subst, ◌∙◌, arith}
 use Rattle.std.proofs.Math.Nat.{dvd-mul_right}
 use Rattle.std.proofs.lemmas.Nat.Gcd.{dvd_trans}
 use Rattle.std.proofs.lemmas.Int.{ints, unsigned_abs-mul}
 use Rattle.frac128.specs.Rational.{ℚ, den, reduced, int, ◌+ℚ◌, ◌-ℚ◌, ◌*ℚ◌, ◌/ℚ◌, neg_ℚ, inverse}
 use Rattle.frac128.specs.IntegerRing.{ring_ℤ, reads_ℤ}
-use Rattle.frac128.specs.Lowest.{reduced-cross, reduced-same, reduced-+ℚ}
+use Rattle.frac128.specs.Lowest.{cancel_ℤ, reduced-cross, reduced-same, reduced-+ℚ}
 use Rattle.frac128.specs.RationalRing.{int_is, ring, reads_ℚ, one-*ℚ}
 use Rattle.frac128.specs.RationalOrder.{product_positive}
 use Rattle.frac128.proofs.Rounding.{*ℚ-inverse}
@@ -19,7 +19,7 @@ use Rattle.frac128.proofs.SumTerms.{fits_of_narrow}
 use Rattle.whole_sums.proofs.RoomLemmas.{short_product, short_narrow, sum_fits_by, den_divides}
 use Rattle.table_entries.specs.Steps.{DifferenceFits, PivotStepFits}
 use Rattle.table_entries.specs.WholeSteps.{IsShort, magnitude, by_sign, IsWholeStep}
-use Rattle.table_entries.specs.private.LeftRows.{IsScaled}
+use Rattle.table_entries.specs.private.Ways.{divided, LeadsOver, IsWay}
 
 -- ---- signs
 
@@ -34,10 +34,6 @@ by_sign-abs (negsuc p) n = omega (arith, ints)
 pub by_sign-short : (p n : ℤ) → IsShort n → IsShort (by_sign p n)
 by_sign-short p n h = subst (λ m. m < 2 ^ 62) (sym (by_sign-abs p n)) h
 
-by_sign-turned : (p n : ℤ) → by_sign p (pos 0 -ℤ n) ≡ pos 0 -ℤ by_sign p n
-by_sign-turned (pos p) n = refl
-by_sign-turned (negsuc p) n = omega (arith, ints)
-
 -- the sign goes over from one factor to the other
 by_sign-over : (p m n : ℤ) → by_sign p m *ℤ n ≡ m *ℤ by_sign p n
 by_sign-over (pos p) m n = refl
@@ -48,37 +44,12 @@ magnitude_positive (pos zero) some = absurd (some refl)
 magnitude_positive (pos (suc p)) some = omega (arith, ints)
 magnitude_positive (negsuc p) some = omega (arith, ints)
 
--- where one of two numbers is 0 so is their product with the sign
-none_taken : (p in_row in_place : ℤ) → (in_row ≡ pos 0) ⊎ (in_place ≡ pos 0) → by_sign p in_place *ℤ in_row ≡ pos 0
-none_taken p in_row in_place none =
-    ⊎_elim (λ row. ap (λ x. by_sign p in_place *ℤ x) row ∙ ring_ℤ (by_sign p in_place ∷ []) (search reads_ℤ) (search reads_ℤ) tt)
-    (λ place. ap (λ x. by_sign p x *ℤ in_row) place ∙ ap (λ x. x *ℤ in_row) (unsigned p) ∙ ring_ℤ (in_row ∷ []) (search reads_ℤ) (search reads_ℤ) tt)
-    none
-  where
-    unsigned : (p : ℤ) → by_sign p (pos 0) ≡ pos 0
-    unsigned (pos p) = refl
-    unsigned (negsuc p) = omega (arith, ints)
-
 by_sign-none : (p n : ℤ) → n ≡ pos 0 → by_sign p n ≡ pos 0
 by_sign-none p n none = ap (by_sign p) none ∙ of_none p
   where
     of_none : (p : ℤ) → by_sign p (pos 0) ≡ pos 0
     of_none (pos p) = refl
     of_none (negsuc p) = omega (arith, ints)
-
-none_short : IsShort (pos 0)
-none_short = omega arith
-
-less_none : (x t : ℤ) → t ≡ pos 0 → x ≡ x -ℤ t
-less_none x t none = ring_ℤ (x ∷ []) {y = x -ℤ pos 0} (search reads_ℤ) (search reads_ℤ) tt ∙ ap (λ z. x -ℤ z) (sym none)
-
-nothing_taken : (D m entry taken : ℤ) → (entry ≡ pos 0) ⊎ (m ≡ D) → taken ≡ pos 0 → entry *ℤ D ≡ entry *ℤ m -ℤ taken
-nothing_taken D m entry taken kept none =
-    ⊎_elim (λ nothing. ap (λ x. x *ℤ D) nothing ∙ zero D m ∙ ap (λ x. x *ℤ m) (sym nothing)) (λ same. ap (λ x. entry *ℤ x) (sym same)) kept
-    ∙ ring_ℤ (entry ∷ m ∷ []) (search reads_ℤ) (search reads_ℤ) tt ∙ ap (λ x. entry *ℤ m -ℤ x) (sym none)
-  where
-    zero : (a b : ℤ) → pos 0 *ℤ a ≡ pos 0 *ℤ b
-    zero a b = ring_ℤ (a ∷ b ∷ []) (search reads_ℤ) (search reads_ℤ) tt
 
 -- ---- quotients
 
@@ -192,27 +163,7 @@ module _ (D p : ℤ) (D_positive : pos 0 <ℤ D) (some : p ≢ pos 0) (D_short :
         total : (a b : ℤ) → unsigned_abs a ≤ 2 ^ 124 → unsigned_abs b ≤ 2 ^ 124 → IsNarrow (a +ℤ (pos 0 -ℤ b))
         total a b h k = omega (arith, ints)
 
-  -- ---- the four kinds of entry
-
-  pub whole_corner : (in_row in_place entry : ℤ) → IsWholeStep true true D p in_row in_place entry (by_sign p D)
-  whole_corner in_row in_place entry = record { short = by_sign-short p D D_short; value = sym (inverse_is D p D_positive some); fits = tt }
-
-  pub whole_row : (in_row in_place entry : ℤ) → IsShort in_row → IsWholeStep true false D p in_row in_place entry (by_sign p (pos 0 -ℤ in_row))
-  whole_row in_row in_place entry h = record {
-    short = by_sign-short p (pos 0 -ℤ in_row) (negative in_row h);
-    value = ap (λ t. quotient_of t (magnitude p)) (by_sign-turned p in_row) ∙ quotient-neg_ℚ (by_sign p in_row) (magnitude p) ∙ ap neg_ℚ (sym (quotient_is D p D_positive some in_row));
-    fits = quotient_fits in_row h;
-  }
-    where
-      negative : (n : ℤ) → IsShort n → IsShort (pos 0 -ℤ n)
-      negative n h = omega (arith, ints)
-
-  pub whole_place : (in_row in_place entry : ℤ) → IsShort in_place → IsWholeStep false true D p in_row in_place entry (by_sign p in_place)
-  whole_place in_row in_place entry h = record {
-    short = by_sign-short p in_place h;
-    value = sym (quotient_is D p D_positive some in_place);
-    fits = quotient_fits in_place h;
-  }
+  -- ---- room
 
   module _ (in_row in_place entry : ℤ) (h : IsShort in_row) (k : IsShort in_place) (l : IsShort entry) where
     abbrev P : ℤ
@@ -221,11 +172,8 @@ module _ (D p : ℤ) (D_positive : pos 0 <ℤ D) (some : p ≢ pos 0) (D_short :
     abbrev over : ℤ
     over = D *ℤ magnitude p
 
-    other_E : pos 0 <ℤ magnitude p
-    other_E = magnitude_positive p some
-
     other_DE : pos 0 <ℤ over
-    other_DE = product_positive D (magnitude p) D_positive other_E
+    other_DE = product_positive D (magnitude p) D_positive (magnitude_positive p some)
 
     P_small : unsigned_abs P ≤ 2 ^ 124
     P_small = short_product (by_sign p in_place) in_row (by_sign-short p in_place k) h
@@ -247,43 +195,159 @@ module _ (D p : ℤ) (D_positive : pos 0 <ℤ D) (some : p ≢ pos 0) (D_short :
     steps_fit false true = quotient_fits in_place k
     steps_fit false false = other_fits
 
-    module _ (n : ℤ) (short : IsShort n) where
-      comm : (a b : ℤ) → a *ℤ b ≡ b *ℤ a
-      comm a b = ring_ℤ (a ∷ b ∷ []) (search reads_ℤ) (search reads_ℤ) tt
+-- ---- the four kinds of entry, by the way of their row
 
-      assoc : (a b d : ℤ) → a *ℤ (b *ℤ d) ≡ a *ℤ d *ℤ b
-      assoc a b d = ring_ℤ (a ∷ b ∷ d ∷ []) (search reads_ℤ) (search reads_ℤ) tt
+-- a positive factor of both sides is left out
+without : (n v T u X Y after : ℤ) → pos 0 <ℤ v → n *ℤ v ≡ T *ℤ u → T *ℤ u *ℤ X ≡ Y *ℤ after *ℤ v → n *ℤ X ≡ Y *ℤ after
+without n v T u X Y after v_positive number whole =
+    cancel_ℤ (n *ℤ X) (Y *ℤ after) (suc (unsigned_abs v - 1)) (omega arith)
+    (ap (λ t. n *ℤ X *ℤ t) (denominator_is v v_positive) ∙ turned n X v ∙ ap (λ t. t *ℤ X) number ∙ whole ∙ ap (λ t. Y *ℤ after *ℤ t) (sym (denominator_is v v_positive)))
+  where
+    turned : (a b c : ℤ) → a *ℤ b *ℤ c ≡ a *ℤ c *ℤ b
+    turned a b c = ring_ℤ (a ∷ b ∷ c ∷ []) (search reads_ℤ) (search reads_ℤ) tt
 
-      entry_over : quotient_of (entry *ℤ magnitude p) over ≡ quotient_of entry D
-      entry_over = same_quotient (entry *ℤ magnitude p) over entry D other_DE D_positive (ring_ℤ (entry ∷ magnitude p ∷ D ∷ []) (search reads_ℤ) (search reads_ℤ) tt)
+sign_out : (p a b : ℤ) → a *ℤ by_sign p b ≡ by_sign p (a *ℤ b)
+sign_out (pos p) a b = refl
+sign_out (negsuc p) a b = ring_ℤ (a ∷ b ∷ []) (search reads_ℤ) (search reads_ℤ) tt
 
-      pub whole_other : n *ℤ D ≡ entry *ℤ magnitude p -ℤ by_sign p in_place *ℤ in_row → IsWholeStep false false D p in_row in_place entry n
-      whole_other exact = record {
-        short = short;
-        value =
-            same_quotient n (magnitude p) (entry *ℤ magnitude p -ℤ P) over other_E other_DE (assoc n D (magnitude p) ∙ comm (n *ℤ magnitude p) D ∙ swap exact)
-            ∙ sym (difference_is (entry *ℤ magnitude p) P over other_DE)
-            ∙ (λ i. entry_over i -ℚ sym (product_is D p D_positive some in_place in_row) i);
-        fits = other_fits;
-      }
-        where
-          swap : n *ℤ D ≡ entry *ℤ magnitude p -ℤ P → D *ℤ (n *ℤ magnitude p) ≡ (entry *ℤ magnitude p -ℤ P) *ℤ magnitude p
-          swap e = ring_ℤ (n ∷ D ∷ magnitude p ∷ []) (search reads_ℤ) (search reads_ℤ) tt ∙ ap (λ t. t *ℤ magnitude p) e
+-- a ratio stays where both numerators take the sign
+pub signed_ratio : (p E M f F : ℤ) → M *ℤ E ≡ f *ℤ F → by_sign p M *ℤ E ≡ by_sign p f *ℤ F
+signed_ratio p E M f F h = by_sign-over p M E ∙ sign_out p M E ∙ ap (by_sign p) h ∙ sym (sign_out p f F) ∙ sym (by_sign-over p f F)
 
-  -- where nothing is taken, and the entry is 0 or the denominator stays, the number stays
-  pub whole_kept : (in_row in_place entry : ℤ) → IsShort in_row → IsShort in_place → IsShort entry → (entry ≡ pos 0) ⊎ (magnitude p ≡ D) → (in_row ≡ pos 0) ⊎ (in_place ≡ pos 0) → IsWholeStep false false D p in_row in_place entry entry
-  whole_kept in_row in_place entry h k l same none =
-      whole_other in_row in_place entry h k l entry l (nothing_taken D (magnitude p) entry (by_sign p in_place *ℤ in_row) same (none_taken p in_row in_place none))
+module _ (D after p : ℤ) (D_positive : pos 0 <ℤ D) (after_positive : pos 0 <ℤ after) (some : p ≢ pos 0) (D_short : IsShort D) (p_short : IsShort p)
+    (x f e : ℤ) (x_short : IsShort x) (f_short : IsShort f) (e_short : IsShort e) (m q v u n : ℤ) (v_positive : pos 0 <ℤ v) (short : IsShort n) where
+  abbrev G : ℤ
+  G = magnitude p
 
-  -- where the entering place has nothing the entry is scaled
-  pub whole_scaled : (entry n : ℤ) → IsShort entry → IsShort n → n *ℤ D ≡ entry *ℤ magnitude p → (entry ≡ pos 0 → n ≡ pos 0) → IsScaled D p entry n
-  whole_scaled entry n e_short n_short exact none true in_row in_place r_short nothing same =
-      let zero : entry ≡ pos 0 = same refl ∙ nothing in
-      subst (λ m. IsWholeStep false true D p in_row in_place entry m) (by_sign-none p in_place nothing ∙ sym (none zero)) (whole_place in_row in_place entry (subst IsShort (sym nothing) none_short))
-  whole_scaled entry n e_short n_short exact none false in_row in_place r_short nothing same =
-      whole_other in_row in_place entry r_short (subst IsShort (sym nothing) none_short) e_short n n_short (exact ∙ less_none (entry *ℤ magnitude p) (by_sign p in_place *ℤ in_row) (none_taken p in_row in_place (inr nothing)))
+  G_positive : pos 0 <ℤ G
+  G_positive = magnitude_positive p some
+
+  abbrev DG : ℤ
+  DG = D *ℤ G
+
+  DG_positive : pos 0 <ℤ DG
+  DG_positive = product_positive D G D_positive G_positive
+
+  fits : (is_row is_place : Bool) → PivotStepFits is_row is_place (quotient_of p D) (quotient_of x D) (quotient_of f D) (quotient_of e D)
+  fits = steps_fit D p D_positive some D_short p_short x f e x_short f_short e_short
+
+  sign_of : (a : ℤ) → by_sign p (pos 1) *ℤ a ≡ by_sign p a
+  sign_of a = by_sign-over p (pos 1) a ∙ ring_ℤ (by_sign p a ∷ []) (search reads_ℤ) (search reads_ℤ) tt
+
+  corner_step : m ≡ by_sign p (pos 1) → u *ℤ G ≡ after *ℤ v → n *ℤ v ≡ m *ℤ D *ℤ u → IsWholeStep true true D after p x f e n
+  corner_step sign ratio number = record {
+    short = short;
+    value =
+        same_quotient n after (by_sign p D) G after_positive G_positive
+        (without n v (m *ℤ D) u G (by_sign p D) after v_positive number
+        (first m D u G ∙ ap (λ t. m *ℤ D *ℤ t) ratio ∙ ap (λ t. t *ℤ D *ℤ (after *ℤ v)) sign ∙ ap (λ t. t *ℤ (after *ℤ v)) (sign_of D) ∙ last (by_sign p D) after v))
+        ∙ sym (inverse_is D p D_positive some);
+    fits = fits true true;
+  }
+    where
+      first : (m d u e : ℤ) → m *ℤ d *ℤ u *ℤ e ≡ m *ℤ d *ℤ (u *ℤ e)
+      first m d u e = ring_ℤ (m ∷ d ∷ u ∷ e ∷ []) (search reads_ℤ) (search reads_ℤ) tt
+
+      last : (a b c : ℤ) → a *ℤ (b *ℤ c) ≡ a *ℤ b *ℤ c
+      last a b c = ring_ℤ (a ∷ b ∷ c ∷ []) (search reads_ℤ) (search reads_ℤ) tt
+
+  row_step : m ≡ by_sign p (pos 1) → q ≡ pos 0 → u *ℤ G ≡ after *ℤ v → n *ℤ v ≡ (e *ℤ q -ℤ m *ℤ x) *ℤ u → IsWholeStep true false D after p x f e n
+  row_step sign none ratio number = record {
+    short = short;
+    value =
+        same_quotient n after (pos 0 -ℤ by_sign p x) G after_positive G_positive
+        (without n v (e *ℤ q -ℤ m *ℤ x) u G (pos 0 -ℤ by_sign p x) after v_positive number
+        (ap (λ t. (e *ℤ t -ℤ m *ℤ x) *ℤ u *ℤ G) none ∙ first e m x u G ∙ ap (λ t. (pos 0 -ℤ m *ℤ x) *ℤ t) ratio ∙ ap (λ t. (pos 0 -ℤ t *ℤ x) *ℤ (after *ℤ v)) sign
+        ∙ ap (λ t. (pos 0 -ℤ t) *ℤ (after *ℤ v)) (sign_of x) ∙ last (pos 0 -ℤ by_sign p x) after v))
+        ∙ quotient-neg_ℚ (by_sign p x) G ∙ ap neg_ℚ (sym (quotient_is D p D_positive some x));
+    fits = fits true false;
+  }
+    where
+      first : (e m x u g : ℤ) → (e *ℤ pos 0 -ℤ m *ℤ x) *ℤ u *ℤ g ≡ (pos 0 -ℤ m *ℤ x) *ℤ (u *ℤ g)
+      first e m x u g = ring_ℤ (e ∷ m ∷ x ∷ u ∷ g ∷ []) {x = (e *ℤ pos 0 -ℤ m *ℤ x) *ℤ u *ℤ g} {y = (pos 0 -ℤ m *ℤ x) *ℤ (u *ℤ g)} (search reads_ℤ depth 9) (search reads_ℤ depth 9) tt
+
+      last : (a b c : ℤ) → a *ℤ (b *ℤ c) ≡ a *ℤ b *ℤ c
+      last a b c = ring_ℤ (a ∷ b ∷ c ∷ []) (search reads_ℤ) (search reads_ℤ) tt
+
+  place_step : m *ℤ G ≡ by_sign p f *ℤ q → u *ℤ (D *ℤ q) ≡ after *ℤ v → n *ℤ v ≡ m *ℤ D *ℤ u → IsWholeStep false true D after p x f e n
+  place_step ratio lead number = record {
+    short = short;
+    value =
+        same_quotient n after (by_sign p f) G after_positive G_positive
+        (without n v (m *ℤ D) u G (by_sign p f) after v_positive number
+        (first m D u G ∙ ap (λ t. t *ℤ D *ℤ u) ratio ∙ second (by_sign p f) q D u ∙ ap (λ t. by_sign p f *ℤ t) lead ∙ last (by_sign p f) after v))
+        ∙ sym (quotient_is D p D_positive some f);
+    fits = fits false true;
+  }
+    where
+      first : (m d u e : ℤ) → m *ℤ d *ℤ u *ℤ e ≡ m *ℤ e *ℤ d *ℤ u
+      first m d u e = ring_ℤ (m ∷ d ∷ u ∷ e ∷ []) (search reads_ℤ) (search reads_ℤ) tt
+
+      second : (s q d u : ℤ) → s *ℤ q *ℤ d *ℤ u ≡ s *ℤ (u *ℤ (d *ℤ q))
+      second s q d u = ring_ℤ (s ∷ q ∷ d ∷ u ∷ []) (search reads_ℤ) (search reads_ℤ) tt
+
+      last : (a b c : ℤ) → a *ℤ (b *ℤ c) ≡ a *ℤ b *ℤ c
+      last a b c = ring_ℤ (a ∷ b ∷ c ∷ []) (search reads_ℤ) (search reads_ℤ) tt
+
+  other_step : m *ℤ G ≡ by_sign p f *ℤ q → u *ℤ (D *ℤ q) ≡ after *ℤ v → n *ℤ v ≡ (e *ℤ q -ℤ m *ℤ x) *ℤ u → IsWholeStep false false D after p x f e n
+  other_step ratio lead number = record {
+    short = short;
+    value =
+        same_quotient n after (e *ℤ G -ℤ by_sign p f *ℤ x) DG after_positive DG_positive
+        (without n v (e *ℤ q -ℤ m *ℤ x) u DG (e *ℤ G -ℤ by_sign p f *ℤ x) after v_positive number
+        (first e q m x u D G ∙ ap (λ t. (e *ℤ q *ℤ G -ℤ t *ℤ x) *ℤ (u *ℤ D)) ratio ∙ second e q G (by_sign p f) x u D
+        ∙ ap (λ t. (e *ℤ G -ℤ by_sign p f *ℤ x) *ℤ t) lead ∙ last (e *ℤ G -ℤ by_sign p f *ℤ x) after v))
+        ∙ sym (difference_is (e *ℤ G) (by_sign p f *ℤ x) DG DG_positive)
+        ∙ (λ i. entry_over i -ℚ sym (product_is D p D_positive some f x) i);
+    fits = fits false false;
+  }
+    where
+      first : (e q m x u d g : ℤ) → (e *ℤ q -ℤ m *ℤ x) *ℤ u *ℤ (d *ℤ g) ≡ (e *ℤ q *ℤ g -ℤ m *ℤ g *ℤ x) *ℤ (u *ℤ d)
+      first e q m x u d g = ring_ℤ (e ∷ q ∷ m ∷ x ∷ u ∷ d ∷ g ∷ []) {x = (e *ℤ q -ℤ m *ℤ x) *ℤ u *ℤ (d *ℤ g)} {y = (e *ℤ q *ℤ g -ℤ m *ℤ g *ℤ x) *ℤ (u *ℤ d)} (search reads_ℤ depth 9) (search reads_ℤ depth 9) tt
+
+      second : (e q g s x u d : ℤ) → (e *ℤ q *ℤ g -ℤ s *ℤ q *ℤ x) *ℤ (u *ℤ d) ≡ (e *ℤ g -ℤ s *ℤ x) *ℤ (u *ℤ (d *ℤ q))
+      second e q g s x u d = ring_ℤ (e ∷ q ∷ g ∷ s ∷ x ∷ u ∷ d ∷ []) {x = (e *ℤ q *ℤ g -ℤ s *ℤ q *ℤ x) *ℤ (u *ℤ d)} {y = (e *ℤ g -ℤ s *ℤ x) *ℤ (u *ℤ (d *ℤ q))} (search reads_ℤ depth 9) (search reads_ℤ depth 9) tt
+
+      last : (a b c : ℤ) → a *ℤ (b *ℤ c) ≡ a *ℤ b *ℤ c
+      last a b c = ring_ℤ (a ∷ b ∷ c ∷ []) (search reads_ℤ) (search reads_ℤ) tt
+
+      entry_over : quotient_of (e *ℤ G) DG ≡ quotient_of e D
+      entry_over = same_quotient (e *ℤ G) DG e D DG_positive D_positive (ring_ℤ (e ∷ G ∷ D ∷ []) (search reads_ℤ) (search reads_ℤ) tt)
+
+  by_leads : (is_row is_place : Bool) → LeadsOver is_row D after p f m q v u → n *ℤ v ≡ divided is_place D m q x e *ℤ u → IsWholeStep is_row is_place D after p x f e n
+  by_leads true true h number = corner_step h.0 h.1.1 number
+  by_leads true false h number = row_step h.0 h.1.0 h.1.1 number
+  by_leads false true h number = place_step h.0 h.1 number
+  by_leads false false h number = other_step h.0 h.1 number
+
+pub way_step : (D after p : ℤ) → pos 0 <ℤ D → pos 0 <ℤ after → p ≢ pos 0 → IsShort D → IsShort p → (x f e : ℤ) → IsShort x → IsShort f → IsShort e → (m q v u n : ℤ) → IsShort n → (is_row is_place : Bool)
+    → IsWay is_row D after p f m q v u → n *ℤ v ≡ divided is_place D m q x e *ℤ u → IsWholeStep is_row is_place D after p x f e n
+way_step D after p D_positive after_positive some D_short p_short x f e x_short f_short e_short m q v u n short is_row is_place way number =
+    by_leads D after p D_positive after_positive some D_short p_short x f e x_short f_short e_short m q v u n way.positive short is_row is_place way.leads number
+
+-- where the entering place has nothing, and the denominator stays, the number stays
+pub left_step : (D p : ℤ) → pos 0 <ℤ D → p ≢ pos 0 → IsShort D → IsShort p → (x f e : ℤ) → IsShort x → IsShort f → IsShort e → f ≡ pos 0 → (is_place : Bool) → (is_place ≡ true → e ≡ f) → IsWholeStep false is_place D D p x f e e
+left_step D p D_positive some D_short p_short x f e x_short f_short e_short none is_place same =
+    by_leads D D p D_positive D_positive some D_short p_short x f e x_short f_short e_short (pos 0) (pos 1) (pos 1) (pos 1) e (omega (arith, ints)) e_short false is_place
+    (nothing (magnitude p) ∙ ap (λ t. t *ℤ pos 1) (sym (by_sign-none p f none)), ones D) (by is_place same)
+  where
+    nothing : (g : ℤ) → pos 0 *ℤ g ≡ pos 0 *ℤ pos 1
+    nothing g = ring_ℤ (g ∷ []) {x = pos 0 *ℤ g} {y = pos 0 *ℤ pos 1} (search reads_ℤ depth 9) (search reads_ℤ depth 9) tt
+
+    ones : (d : ℤ) → pos 1 *ℤ (d *ℤ pos 1) ≡ d *ℤ pos 1
+    ones d = ring_ℤ (d ∷ []) (search reads_ℤ) (search reads_ℤ) tt
+
+    zero : (d : ℤ) → pos 0 *ℤ pos 1 ≡ pos 0 *ℤ d *ℤ pos 1
+    zero d = ring_ℤ (d ∷ []) {x = pos 0 *ℤ pos 1} {y = pos 0 *ℤ d *ℤ pos 1} (search reads_ℤ depth 9) (search reads_ℤ depth 9) tt
+
+    stays : (e x : ℤ) → e *ℤ pos 1 ≡ (e *ℤ pos 1 -ℤ pos 0 *ℤ x) *ℤ pos 1
+    stays e x = ring_ℤ (e ∷ x ∷ []) {x = e *ℤ pos 1} {y = (e *ℤ pos 1 -ℤ pos 0 *ℤ x) *ℤ pos 1} (search reads_ℤ depth 9) (search reads_ℤ depth 9) tt
+
+    by : (b : Bool) → (b ≡ true → e ≡ f) → e *ℤ pos 1 ≡ divided b D (pos 0) (pos 1) x e *ℤ pos 1
+    by true h = ap (λ t. t *ℤ pos 1) (h refl ∙ none) ∙ zero D
+    by false h = stays e x
 
 -- the same of flags and a number that are read
-pub step_at : (r q x y : Bool) (D p in_row in_place entry n m : ℤ) → r ≡ x → q ≡ y → m ≡ n → IsWholeStep x y D p in_row in_place entry n → IsWholeStep r q D p in_row in_place entry m
-step_at r q x y D p in_row in_place entry n m e f g h =
-    subst₃ (λ a b c. IsWholeStep a b D p in_row in_place entry c) (sym e) (sym f) (sym g) h
+pub step_at : (r q x y : Bool) (D after p in_row in_place entry n m : ℤ) → r ≡ x → q ≡ y → m ≡ n → IsWholeStep x y D after p in_row in_place entry n → IsWholeStep r q D after p in_row in_place entry m
+step_at r q x y D after p in_row in_place entry n m e f g h =
+    subst₃ (λ a b c. IsWholeStep a b D after p in_row in_place entry c) (sym e) (sym f) (sym g) h

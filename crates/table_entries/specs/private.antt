@@ -4,3 +4,4 @@ pub mod Listed
 pub mod Parts
 pub mod Steps
 pub mod LeftRows
+pub mod Ways

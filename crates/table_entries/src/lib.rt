@@ -34,15 +34,17 @@
 //! fractions; an exchange in which a step has no room changes no entry and is answered with the first such step.
 //!
 //! While the entries are whole numbers below 2^62 over one such denominator, `t(I,K) = N(I,K) / D`, they are kept so
-//! (`TableEntries`). With `E = |N(R,S)|`, and `s` the sign of `N(R,S)`, the numbers over `E` after the exchange are
+//! (`TableEntries`). With `E = |N(R,S)|`, and `s` the sign of `N(R,S)`, the numbers over `D'` after the exchange are
 //!
 //! ```text
-//! s * D for (R,S),   -s * N(R,K) for (R,K),   s * N(I,S) for (I,S),   (N(I,K) * E - s * N(I,S) * N(R,K)) / D else
+//! s * D * D' / E for (R,S),   -s * N(R,K) * D' / E for (R,K),   s * N(I,S) * D' / E for (I,S),
+//! (N(I,K) * E - s * N(I,S) * N(R,K)) * D' / (D * E) else
 //! ```
 //!
-//! (E. H. Bareiss, Sylvester's identity and multistep integer-preserving Gaussian elimination, Mathematics of Computation
-//! 22, 1968). No greatest common divisor is taken, and no step of fractions would be without room. Where a division is
-//! not exact, or a number is no longer below 2^62, the entries become fractions and stay so.
+//! `D'` is `D` where that can be, so that rows without an entry in the entering place stay as they are; else `E` (E. H. Bareiss,
+//! Sylvester's identity and multistep integer-preserving Gaussian elimination, Mathematics of Computation 22, 1968), and where that
+//! is too large a denominator that is as low as may be. Each division is tested, and no step of fractions would be without room.
+//! Where a division is not exact, or a number is no longer below 2^62, the entries become fractions and stay so.
 //!
 //! Rows of a table that are sums of others may be left unwritten (`PartEntries`). The row of a basic cut with the coefficients
 //! `a(J)` is, at every basis, the sum of `a(J)` times the row of column `J`, or times 1 at its own place where it is nonbasic:
@@ -62,6 +64,7 @@
 //! whole numbers over one denominator; above, `row_tableau`.
 #![tactic(auto)]
 
+mod denominators;
 mod entries;
 mod laws;
 mod parts;

@@ -11,7 +11,7 @@ ghost use Rattle.table_entries.specs.FlatSteps.{FlatFits};
 ghost use Rattle.table_entries.specs.WholeSteps.{IsShort, IsShortOver, magnitude, whole_number_at, is_unwritten, AreWithin};
 ghost use Rattle.table_entries.specs.Listed.{IsListed, IsExchangedList};
 ghost use Rattle.table_entries.specs.Parts.{Parts, IsParted, IsSwap, AreColumnsWritten, any_entry, filled, row_coefficient, swapped, weight};
-ghost use Rattle.table_entries.specs.private.Parts.{IsLight, IsRowFormed, slot_number, unwritten_number};
+ghost use Rattle.table_entries.specs.private.Parts.{IsLight, IsRowTouched, IsRowFormed, IsFront, slot_number, unwritten_number};
 
 use crate::entries::flat_index;
 use crate::table_entries::{TableEntries, fraction, is_nothing};
@@ -146,7 +146,57 @@ fn unwritten_number(
     total
 }
 
-/// Writes a row that is not written.
+/// Writes zeros in a row.
+fn clear_row(entries: &mut TableEntries, rows: usize, columns: usize, row: usize)
+    requires whole { entries.old.is_whole ≡ true }
+    requires listed { IsListed entries.old }
+    requires row { row < rows }
+    requires size { length entries.old.list ≡ rows * columns }
+    requires room { rows * columns < 2 ^ 64 }
+    ensures touched { IsRowTouched columns row entries.old entries.new }
+    ensures nothing { (k : ℕ) → k < columns → whole_number_at entries.new.numbers (row * columns + k) ≡ pos 0 }
+{
+    for place in 0..columns {
+        let at = flat_index(rows, columns, row, place);
+        entries.write(at, 0);
+    }
+}
+
+/// Adds the term of a column to the numbers of a row that is the sum of those of the columns before it.
+fn add_column(
+    entries: &mut TableEntries,
+    rows: usize,
+    columns: usize,
+    coefficients: &[i64],
+    slots: &[usize],
+    row: usize,
+    column: usize,
+)
+    requires row { row < rows }
+    requires column { column < columns }
+    requires size { length entries.old.list ≡ rows * columns }
+    requires coefficients { length coefficients.now ≡ rows * columns }
+    requires slots { columns ≤ length slots.now }
+    requires light { IsLight rows columns entries.old coefficients.now (λ j. get_or slots.now j 0) row }
+    requires apart { (j : ℕ) → j < columns → get_or slots.now j 0 ≢ row }
+    requires before { IsFront rows columns entries.old coefficients.now (λ j. get_or slots.now j 0) row column entries.old.numbers }
+    ensures touched { IsRowTouched columns row entries.old entries.new }
+    ensures added { IsFront rows columns entries.old coefficients.now (λ j. get_or slots.now j 0) row (column + 1) entries.new.numbers }
+{
+    let coefficient = coefficients[flat_index(rows, columns, row, column)];
+    if coefficient == 0 {
+        return;
+    }
+    let slot = slots[column];
+    for place in 0..columns {
+        let at = flat_index(rows, columns, row, place);
+        let before = entries.number(at);
+        let number = number_at_slot(entries, rows, columns, slot, place);
+        entries.write(at, before + coefficient * number);
+    }
+}
+
+/// Writes a row that is not written: column by column, since most coefficients are 0.
 fn write_numbers(
     entries: &mut TableEntries,
     rows: usize,
@@ -163,10 +213,9 @@ fn write_numbers(
     requires apart { (j : ℕ) → j < columns → get_or slots.now j 0 ≢ row }
     ensures { IsRowFormed rows columns coefficients.now (λ j. get_or slots.now j 0) row entries.old entries.new }
 {
-    for place in 0..columns {
-        let at = flat_index(rows, columns, row, place);
-        let number = unwritten_number(entries, rows, columns, coefficients, slots, row, place);
-        entries.write(at, number);
+    clear_row(entries, rows, columns, row);
+    for column in 0..columns {
+        add_column(entries, rows, columns, coefficients, slots, row, column);
     }
 }
 

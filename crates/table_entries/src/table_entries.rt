@@ -7,8 +7,11 @@ ghost use Rattle.table_entries.specs.WholeSteps.{IsShort, AreWithin, magnitude, 
 ghost use Rattle.table_entries.specs.Listed.{Listed, listed_costs, over, AreOver, IsListed, IsStored, IsShortWhole, IsExchangedList};
 ghost use Rattle.table_entries.specs.private.Listed.{ArePartsExchanged};
 
+use crate::denominators::denominator_after;
 use crate::entries::{exchange_entries, flat_index};
-use crate::wholes::{MOST_MARKS, are_within, mark_left, take_rows, write_wholes};
+use crate::wholes::{
+    MOST_MARKS, are_within, is_below, mark_left, may_stay, take_rows, write_wholes,
+};
 use frac128::Frac;
 use std::alloc::{AllocError, Global};
 use whole_sums::SHORT_LIMIT;
@@ -240,8 +243,8 @@ impl TableEntries {
         self.numbers[at] = number;
     }
 
-    /// Exchanges the rows that are written where the denominator stays: those that have no entry in the entering place are
-    /// left alone. False where that can't be done, or where a number after it is not below the limit, as those before are;
+    /// Exchanges the rows that are written over the same denominator: those that have no entry in the entering place are left
+    /// alone. False where that can't be done, or where a number after it is not below the limit, as those before are;
     /// then nothing changes.
     fn exchange_some(
         &mut self,
@@ -259,12 +262,14 @@ impl TableEntries {
         requires size { length self.old.list ≡ rows * columns }
         requires few { rows ≤ 4096 }
         requires some { get_or self.old.list (row * columns + place) (int (pos 0)) ≢ int (pos 0) }
-        requires stays { magnitude (whole_number_at self.old.numbers (row * columns + place)) ≡ self.old.denominator }
         requires positive { pos 0 <ℤ limit }
         requires within { AreWithin rows columns unwritten.now limit self.old.numbers }
         ensures done { IsTrue result → ArePartsExchanged rows columns row place unwritten.now limit self.old self.new }
         ensures kept { result ≡ false → self.new ≡ self.old }
     {
+        if !is_below(limit, self.denominator) {
+            return false;
+        }
         let mut left = [false; MOST_MARKS];
         mark_left(
             rows,
@@ -281,6 +286,7 @@ impl TableEntries {
             row,
             place,
             self.denominator,
+            self.denominator,
             &self.numbers,
             &left,
             &mut self.spare_numbers,
@@ -294,9 +300,100 @@ impl TableEntries {
         true
     }
 
-    /// Exchanges the rows that are written over a common denominator. False where that can't be done, or where a number
-    /// after it is not below the limit; then nothing changes.
+    /// Exchanges the rows that are written over this denominator. False where that can't be done, or where it or a number after
+    /// it is not below the limit; then nothing changes.
     fn exchange_each(
+        &mut self,
+        rows: usize,
+        columns: usize,
+        row: usize,
+        place: usize,
+        after: i64,
+        unwritten: &[bool],
+        limit: i64,
+    ) -> bool
+        requires whole { self.old.is_whole ≡ true }
+        requires row { row < rows }
+        requires place { place < columns }
+        requires room { rows * columns < 2 ^ 64 }
+        requires size { length self.old.list ≡ rows * columns }
+        requires some { get_or self.old.list (row * columns + place) (int (pos 0)) ≢ int (pos 0) }
+        requires after_positive { pos 0 <ℤ after }
+        requires after { IsShort after }
+        requires positive { pos 0 <ℤ limit }
+        ensures done { IsTrue result → ArePartsExchanged rows columns row place unwritten.now limit self.old self.new }
+        ensures kept { result ≡ false → self.new ≡ self.old }
+    {
+        if !is_below(limit, after) {
+            return false;
+        }
+        if !write_wholes(
+            rows,
+            columns,
+            row,
+            place,
+            self.denominator,
+            after,
+            &self.numbers,
+            unwritten,
+            &mut self.spare_numbers,
+        ) {
+            return false;
+        }
+        if !are_within(limit, rows, columns, unwritten, &self.spare_numbers) {
+            return false;
+        }
+        std::mem::swap(&mut self.numbers, &mut self.spare_numbers);
+        self.denominator = after;
+        true
+    }
+
+    /// The magnitude of the pivot's number.
+    fn pivot_magnitude(&self, rows: usize, columns: usize, row: usize, place: usize) -> i64
+        requires whole { self.now.is_whole ≡ true }
+        requires row { row < rows }
+        requires place { place < columns }
+        requires room { rows * columns < 2 ^ 64 }
+        requires size { length self.now.list ≡ rows * columns }
+        requires some { get_or self.now.list (row * columns + place) (int (pos 0)) ≢ int (pos 0) }
+        ensures positive { pos 0 <ℤ result }
+        ensures short { IsShort result }
+    {
+        self.numbers[flat_index(rows, columns, row, place)].abs()
+    }
+
+    /// A denominator over which the entries after the exchange are whole numbers, without what all of them share with it. It is
+    /// tried, so nothing rests on it but speed.
+    fn next_denominator(
+        &self,
+        rows: usize,
+        columns: usize,
+        row: usize,
+        place: usize,
+        unwritten: &[bool],
+    ) -> i64
+        requires whole { self.now.is_whole ≡ true }
+        requires row { row < rows }
+        requires place { place < columns }
+        requires room { rows * columns < 2 ^ 64 }
+        requires size { length self.now.list ≡ rows * columns }
+        ensures positive { pos 0 <ℤ result }
+        ensures short { IsShort result }
+    {
+        denominator_after(
+            rows,
+            columns,
+            row,
+            place,
+            self.denominator.unsigned_abs(),
+            &self.numbers,
+            unwritten,
+        )
+    }
+
+    /// Exchanges the rows that are written over another denominator: the pivot's magnitude, or where numbers over that are too long,
+    /// one that is found. False where that can't be done; then nothing changes.
+    fn exchange_over(
         &mut self,
         rows: usize,
         columns: usize,
@@ -315,41 +412,16 @@ impl TableEntries {
         ensures done { IsTrue result → ArePartsExchanged rows columns row place unwritten.now limit self.old self.new }
         ensures kept { result ≡ false → self.new ≡ self.old }
     {
-        let pivot = self.numbers[flat_index(rows, columns, row, place)];
-        if !write_wholes(
-            rows,
-            columns,
-            row,
-            place,
-            self.denominator,
-            &self.numbers,
-            unwritten,
-            &mut self.spare_numbers,
-        ) {
-            return false;
+        let magnitude = self.pivot_magnitude(rows, columns, row, place);
+        if self.exchange_each(rows, columns, row, place, magnitude, unwritten, limit) {
+            return true;
         }
-        if !are_within(limit, rows, columns, unwritten, &self.spare_numbers) {
-            return false;
-        }
-        std::mem::swap(&mut self.numbers, &mut self.spare_numbers);
-        self.denominator = pivot.abs();
-        true
+        let after = self.next_denominator(rows, columns, row, place, unwritten);
+        self.exchange_each(rows, columns, row, place, after, unwritten, limit)
     }
 
-    /// Whether the denominator stays in an exchange.
-    fn stays(&self, rows: usize, columns: usize, row: usize, place: usize) -> bool
-        requires whole { self.now.is_whole ≡ true }
-        requires row { row < rows }
-        requires place { place < columns }
-        requires room { rows * columns < 2 ^ 64 }
-        requires size { length self.now.list ≡ rows * columns }
-        ensures { IsTrue result → magnitude (whole_number_at self.now.numbers (row * columns + place)) ≡ self.now.denominator }
-    {
-        self.numbers[flat_index(rows, columns, row, place)].abs() == self.denominator
-    }
-
-    /// Exchanges the rows that are written over a common denominator. False where that can't be done, or where a number
-    /// after it is not below the limit, as those before are; then nothing changes.
+    /// Exchanges the rows that are written over a common denominator: the same one, if that can be, and else another one. False
+    /// where that can't be done, or where a number after it is not below the limit, as those before are; then nothing changes.
     pub(crate) fn exchange_part(
         &mut self,
         rows: usize,
@@ -370,11 +442,17 @@ impl TableEntries {
         ensures done { IsTrue result → ArePartsExchanged rows columns row place unwritten.now limit self.old self.new }
         ensures kept { result ≡ false → self.new ≡ self.old }
     {
-        if rows <= MOST_MARKS && self.stays(rows, columns, row, place) {
-            self.exchange_some(rows, columns, row, place, unwritten, limit)
-        } else {
-            self.exchange_each(rows, columns, row, place, unwritten, limit)
+        if rows > MOST_MARKS {
+            return self.exchange_over(rows, columns, row, place, unwritten, limit);
         }
+        let magnitude = self.pivot_magnitude(rows, columns, row, place);
+        if !may_stay(self.denominator(), magnitude) {
+            return self.exchange_over(rows, columns, row, place, unwritten, limit);
+        }
+        if self.exchange_some(rows, columns, row, place, unwritten, limit) {
+            return true;
+        }
+        self.exchange_over(rows, columns, row, place, unwritten, limit)
     }
 
     /// Exchanges over a common denominator. False where that can't be done; then nothing changes.

@@ -1,9 +1,11 @@
 // Entries that are whole numbers over one common denominator.
-ghost use Rattle.std.specs.Prelude.{◌≡◌, ◌≢◌, ◌⊎◌, ◌<◌, ◌≤◌, ◌+◌, ◌*◌, ◌<ℤ◌, ◌*ℤ◌, ℕ, ℤ, pos, true, false, length, IsTrue, IfSome};
-ghost use Rattle.table_entries.specs.WholeSteps.{IsShort, IsWholeStep, magnitude, by_sign, whole_number_at, is_unwritten, AreShort, AreWritten, AreWithin};
-ghost use Rattle.table_entries.specs.private.LeftRows.{IsWholeLeft, AreLeft, IsScaled};
+ghost use Rattle.std.specs.Prelude.{◌≡◌, ◌≢◌, ◌<◌, ◌≤◌, ◌+◌, ◌*◌, ◌<ℤ◌, ◌-ℤ◌, ◌*ℤ◌, ℕ, ℤ, pos, true, false, length, IsTrue, IfSome};
+ghost use Rattle.table_entries.specs.WholeSteps.{IsShort, magnitude, by_sign, whole_number_at, is_unwritten, AreShort, AreWritten, AreWithin};
+ghost use Rattle.table_entries.specs.private.LeftRows.{IsWholeLeft, AreLeft};
+ghost use Rattle.table_entries.specs.private.Ways.{IsRatio, IsWay, divided};
 
 use crate::entries::flat_index;
+use crate::table_entries::fraction;
 use whole_sums::{SHORT_LIMIT, product, short_number};
 
 /// The number with the sign of the pivot.
@@ -64,85 +66,241 @@ fn exact_quotient(number: i128, divisor: i64, inverse: &Inverse) -> Option<i64>
     }
 }
 
-/// Whether an entry outside the leaving row and the entering place keeps its number: nothing is taken from it, and it is 0 or
-/// the denominator stays. In sparse tables most do.
-#[inline]
-fn is_kept(denominator: i64, pivot: i64, in_row: i64, in_place: i64, entry: i64) -> bool
-    requires pivot { IsShort pivot }
-    ensures scale { IsTrue result → (entry ≡ pos 0) ⊎ (magnitude pivot ≡ denominator) }
-    ensures nothing { IsTrue result → (in_row ≡ pos 0) ⊎ (in_place ≡ pos 0) }
+/// A fraction in lowest terms.
+#[derive(Clone, Copy)]
+struct Ratio {
+    top: i64,
+    bottom: i64,
+}
+
+/// The number by the denominator in lowest terms.
+fn lowest(number: i64, denominator: i64) -> Option<Ratio>
+    requires number { IsShort number }
+    requires denominator { IsShort denominator }
+    requires positive { pos 0 <ℤ denominator }
+    ensures { IfSome result (λ q. IsRatio number denominator q.top q.bottom) }
 {
-    let stays = pivot.abs() == denominator;
-    if in_place == 0 {
-        if entry == 0 {
-            return true;
-        }
-        return stays;
+    let value = fraction(number, denominator);
+    value.has_room();
+    let Some(top) = short_number(value.numerator()) else {
+        return None;
+    };
+    let Some(bottom) = short_number(value.denominator()) else {
+        return None;
+    };
+    Some(Ratio { top, bottom })
+}
+
+/// How the numbers of a row after an exchange come from those before it: `(entry * scale - factor * in_row) / divisor *
+/// multiplier`, and in the entering place `factor * denominator / divisor * multiplier`.
+#[derive(Clone, Copy)]
+pub struct Way {
+    factor: i64,
+    scale: i64,
+    divisor: i64,
+    multiplier: i64,
+}
+
+/// The way of the leaving row.
+fn leaving_way(denominator: i64, after: i64, pivot: i64, in_place: i64) -> Option<Way>
+    requires some { pivot ≢ pos 0 }
+    requires after { IsShort after }
+    requires pivot { IsShort pivot }
+    ensures { IfSome result (λ w. IsWay true denominator after pivot in_place w.factor w.scale w.divisor w.multiplier) }
+{
+    let magnitude = pivot.abs();
+    let factor = by_sign(pivot, 1);
+    if after == magnitude {
+        return Some(Way {
+            factor,
+            scale: 0,
+            divisor: 1,
+            multiplier: 1,
+        });
+    }
+    let Some(found) = lowest(after, magnitude) else {
+        return None;
+    };
+    Some(Way {
+        factor,
+        scale: 0,
+        divisor: found.bottom,
+        multiplier: found.top,
+    })
+}
+
+/// The way of another row where the denominator is the pivot's magnitude, or stays: then there is nothing to be found.
+fn plain_way(denominator: i64, after: i64, pivot: i64, in_place: i64) -> Option<Way>
+    requires some { pivot ≢ pos 0 }
+    requires positive { pos 0 <ℤ denominator }
+    requires denominator { IsShort denominator }
+    requires after { IsShort after }
+    requires pivot { IsShort pivot }
+    requires in_place { IsShort in_place }
+    ensures { IfSome result (λ w. IsWay false denominator after pivot in_place w.factor w.scale w.divisor w.multiplier) }
+{
+    let magnitude = pivot.abs();
+    let factor = by_sign(pivot, in_place);
+    if after == magnitude {
+        return Some(Way {
+            factor,
+            scale: magnitude,
+            divisor: denominator,
+            multiplier: 1,
+        });
+    }
+    if after == denominator {
+        return Some(Way {
+            factor,
+            scale: magnitude,
+            divisor: magnitude,
+            multiplier: 1,
+        });
+    }
+    None
+}
+
+/// The way of another row over any denominator.
+fn lowest_way(denominator: i64, after: i64, pivot: i64, in_place: i64) -> Option<Way>
+    requires some { pivot ≢ pos 0 }
+    requires positive { pos 0 <ℤ denominator }
+    requires denominator { IsShort denominator }
+    requires after { IsShort after }
+    requires pivot { IsShort pivot }
+    requires in_place { IsShort in_place }
+    ensures { IfSome result (λ w. IsWay false denominator after pivot in_place w.factor w.scale w.divisor w.multiplier) }
+{
+    let Some(taken) = lowest(in_place, pivot.abs()) else {
+        return None;
+    };
+    let Some(first) = lowest(after, taken.bottom) else {
+        return None;
+    };
+    let Some(second) = lowest(first.top, denominator) else {
+        return None;
+    };
+    let Some(divisor) = short_number(product(first.bottom, second.bottom)) else {
+        return None;
+    };
+    Some(Way {
+        factor: by_sign(pivot, taken.top),
+        scale: taken.bottom,
+        divisor,
+        multiplier: second.top,
+    })
+}
+
+/// The way of a row in the exchange of a pivot from a denominator to another one, if there is one.
+fn way_of(is_row: bool, denominator: i64, after: i64, pivot: i64, in_place: i64) -> Option<Way>
+    requires some { pivot ≢ pos 0 }
+    requires positive { pos 0 <ℤ denominator }
+    requires denominator { IsShort denominator }
+    requires after { IsShort after }
+    requires pivot { IsShort pivot }
+    requires in_place { IsShort in_place }
+    ensures { IfSome result (λ w. IsWay is_row denominator after pivot in_place w.factor w.scale w.divisor w.multiplier) }
+{
+    if is_row {
+        return leaving_way(denominator, after, pivot, in_place);
+    }
+    match plain_way(denominator, after, pivot, in_place) {
+        Some(way) => Some(way),
+        None => lowest_way(denominator, after, pivot, in_place),
+    }
+}
+
+/// Whether an entry from which nothing is taken keeps its number: it is 0, or scaled by 1.
+#[inline]
+fn is_scaled_by_one(way: &Way, entry: i64) -> bool
+    ensures { IsTrue result → entry *ℤ way.now.divisor ≡ entry *ℤ way.now.scale *ℤ way.now.multiplier }
+{
+    if entry == 0 {
+        return true;
+    }
+    if way.divisor != way.scale {
+        return false;
+    }
+    if way.multiplier != 1 {
+        return false;
+    }
+    true
+}
+
+/// Whether an entry outside the entering place keeps its number. In sparse tables most do.
+#[inline]
+fn is_kept(way: &Way, in_row: i64, entry: i64) -> bool
+    ensures { IsTrue result → entry *ℤ way.now.divisor ≡ (entry *ℤ way.now.scale -ℤ way.now.factor *ℤ in_row) *ℤ way.now.multiplier }
+{
+    if way.factor == 0 {
+        return is_scaled_by_one(way, entry);
     }
     if in_row == 0 {
-        return stays;
+        return is_scaled_by_one(way, entry);
     }
     false
 }
 
-/// The number of an entry after the exchange, by the numbers of the pivot, of the entry of the leaving row, of that of the
-/// entering place, and of the entry before. None where a division is not exact, or where the number is not short.
+/// The total divided and multiplied, if the division is exact and the number is short.
 #[inline]
-pub fn exchanged_number(
-    is_row: bool,
-    is_place: bool,
-    denominator: i64,
-    inverse: &Inverse,
-    pivot: i64,
-    in_row: i64,
-    in_place: i64,
-    entry: i64,
-) -> Option<i64>
-    requires some { pivot ≢ pos 0 }
-    requires positive { pos 0 <ℤ denominator }
-    requires denominator { IsShort denominator }
-    requires pivot { IsShort pivot }
-    requires in_row { IsShort in_row }
-    requires in_place { IsShort in_place }
-    requires entry { IsShort entry }
-    ensures { IfSome result (λ n. IsWholeStep is_row is_place denominator pivot in_row in_place entry n) }
+fn scaled(total: i128, way: &Way, inverse: &Inverse) -> Option<i64>
+    requires divisor { IsShort way.now.divisor }
+    requires multiplier { IsShort way.now.multiplier }
+    ensures short { IfSome result (λ n. IsShort n) }
+    ensures product { IfSome result (λ n. n *ℤ way.now.divisor ≡ total *ℤ way.now.multiplier) }
 {
-    if is_row {
-        if is_place {
-            Some(by_sign(pivot, denominator))
-        } else {
-            Some(by_sign(pivot, -in_row))
-        }
-    } else if is_place {
-        Some(by_sign(pivot, in_place))
-    } else if is_kept(denominator, pivot, in_row, in_place, entry) {
-        Some(entry)
-    } else {
-        let scaled = product(entry, pivot.abs());
-        let taken = product(by_sign(pivot, in_place), in_row);
-        exact_quotient(scaled - taken, denominator, inverse)
+    let Some(quotient) = exact_quotient(total, way.divisor, inverse) else {
+        return None;
+    };
+    if way.multiplier == 1 {
+        return Some(quotient);
     }
+    short_number(product(quotient, way.multiplier))
 }
 
-/// The number of an entry after the exchange in a row that has no entry in the entering place: it is scaled. None where the division
-/// is not exact, or where the number is not short.
+/// The number of an entry after the exchange, by the numbers of the entry of the leaving row and of the entry before. None where a
+/// division is not exact, or where the number is not short.
 #[inline]
-fn scaled_number(denominator: i64, inverse: &Inverse, pivot: i64, entry: i64) -> Option<i64>
-    requires some { pivot ≢ pos 0 }
-    requires positive { pos 0 <ℤ denominator }
+pub fn exchanged_number(
+    is_place: bool,
+    denominator: i64,
+    way: &Way,
+    inverse: &Inverse,
+    in_row: i64,
+    entry: i64,
+) -> Option<i64>
     requires denominator { IsShort denominator }
-    requires pivot { IsShort pivot }
+    requires factor { IsShort way.now.factor }
+    requires scale { IsShort way.now.scale }
+    requires divisor { IsShort way.now.divisor }
+    requires multiplier { IsShort way.now.multiplier }
+    requires in_row { IsShort in_row }
     requires entry { IsShort entry }
-    ensures { IfSome result (λ n. IsScaled denominator pivot entry n) }
+    ensures short { IfSome result (λ n. IsShort n) }
+    ensures product { IfSome result (λ n. n *ℤ way.now.divisor ≡ divided is_place denominator way.now.factor way.now.scale in_row entry *ℤ way.now.multiplier) }
 {
-    if entry == 0 {
-        return Some(0);
+    if is_place {
+        return scaled(product(way.factor, denominator), way, inverse);
     }
-    exact_quotient(product(entry, pivot.abs()), denominator, inverse)
+    if is_kept(way, in_row, entry) {
+        return Some(entry);
+    }
+    let whole = product(entry, way.scale);
+    let taken = product(way.factor, in_row);
+    scaled(whole - taken, way, inverse)
+}
+
+/// Whether the corner of an exchange of a pivot has a whole number over the same denominator, as the denominator can't stay else.
+pub fn may_stay(denominator: i64, magnitude: i64) -> bool
+    requires denominator { IsShort denominator }
+    requires positive { pos 0 <ℤ magnitude }
+    requires magnitude { IsShort magnitude }
+{
+    let inverse = Inverse::of(magnitude);
+    exact_quotient(product(denominator, denominator), magnitude, &inverse).is_some()
 }
 
 /// Whether a row is not written, by a list of flags. Behind the list rows are written.
-fn is_unwritten(unwritten: &[bool], row: usize) -> bool
+pub fn is_unwritten(unwritten: &[bool], row: usize) -> bool
     ensures { result ≡ is_unwritten unwritten.now row }
 {
     if row < unwritten.len() {
@@ -150,47 +308,6 @@ fn is_unwritten(unwritten: &[bool], row: usize) -> bool
     } else {
         false
     }
-}
-
-/// Writes the numbers after the exchange of a row that has no entry in the entering place, and is not the leaving one, behind those
-/// of the rows before it. False where one can't be had.
-fn write_scaled_row(
-    rows: usize,
-    columns: usize,
-    row: usize,
-    place: usize,
-    denominator: i64,
-    numbers: &[i64],
-    unwritten: &[bool],
-    at_row: usize,
-    next: &mut [i64],
-) -> bool
-    requires row { row < rows }
-    requires place { place < columns }
-    requires at_row { at_row < rows }
-    requires other { at_row ≢ row }
-    requires size { length numbers.now ≡ rows * columns }
-    requires room { length next.old ≡ rows * columns }
-    requires positive { pos 0 <ℤ denominator }
-    requires denominator { IsShort denominator }
-    requires short { AreShort numbers.now }
-    requires next { AreShort next.old }
-    requires some { whole_number_at numbers.now (row * columns + place) ≢ pos 0 }
-    requires nothing { whole_number_at numbers.now (at_row * columns + place) ≡ pos 0 }
-    requires earlier { AreWritten columns row place denominator numbers.now unwritten.now next.old (at_row * columns) }
-    ensures written { IsTrue result → AreWritten columns row place denominator numbers.now unwritten.now next.new ((at_row + 1) * columns) }
-    ensures short { AreShort next.new }
-{
-    let pivot = numbers[flat_index(rows, columns, row, place)];
-    let inverse = Inverse::of(denominator);
-    for at_place in 0..columns {
-        let at = flat_index(rows, columns, at_row, at_place);
-        match scaled_number(denominator, &inverse, pivot, numbers[at]) {
-            Some(number) => next[at] = number,
-            None => return false,
-        }
-    }
-    true
 }
 
 /// Writes the numbers of one row after the exchange behind those of the rows before it, unless the row is not written. False
@@ -201,6 +318,7 @@ fn write_whole_row(
     row: usize,
     place: usize,
     denominator: i64,
+    after: i64,
     numbers: &[i64],
     unwritten: &[bool],
     at_row: usize,
@@ -213,11 +331,13 @@ fn write_whole_row(
     requires room { length next.old ≡ rows * columns }
     requires positive { pos 0 <ℤ denominator }
     requires denominator { IsShort denominator }
+    requires after_positive { pos 0 <ℤ after }
+    requires after { IsShort after }
     requires short { AreShort numbers.now }
     requires next { AreShort next.old }
     requires some { whole_number_at numbers.now (row * columns + place) ≢ pos 0 }
-    requires earlier { AreWritten columns row place denominator numbers.now unwritten.now next.old (at_row * columns) }
-    ensures written { IsTrue result → AreWritten columns row place denominator numbers.now unwritten.now next.new ((at_row + 1) * columns) }
+    requires earlier { AreWritten columns row place denominator after numbers.now unwritten.now next.old (at_row * columns) }
+    ensures written { IsTrue result → AreWritten columns row place denominator after numbers.now unwritten.now next.new ((at_row + 1) * columns) }
     ensures short { AreShort next.new }
 {
     if is_unwritten(unwritten, at_row) {
@@ -225,31 +345,19 @@ fn write_whole_row(
     }
     let pivot = numbers[flat_index(rows, columns, row, place)];
     let in_place = numbers[flat_index(rows, columns, at_row, place)];
-    if at_row != row && in_place == 0 {
-        return write_scaled_row(
-            rows,
-            columns,
-            row,
-            place,
-            denominator,
-            numbers,
-            unwritten,
-            at_row,
-            next,
-        );
-    }
-    let inverse = Inverse::of(denominator);
+    let Some(way) = way_of(at_row == row, denominator, after, pivot, in_place) else {
+        return false;
+    };
+    let inverse = Inverse::of(way.divisor);
     for at_place in 0..columns {
         let at = flat_index(rows, columns, at_row, at_place);
         let in_row = numbers[flat_index(rows, columns, row, at_place)];
         match exchanged_number(
-            at_row == row,
             at_place == place,
             denominator,
+            &way,
             &inverse,
-            pivot,
             in_row,
-            in_place,
             numbers[at],
         ) {
             Some(number) => next[at] = number,
@@ -259,14 +367,15 @@ fn write_whole_row(
     true
 }
 
-/// Writes the numbers after the exchange into `next`, those of rows that are not written left out. False where one can't be
-/// had.
+/// Writes the numbers after the exchange, over a denominator, into `next`, those of rows that are not written left out. False where
+/// one can't be had.
 pub fn write_wholes(
     rows: usize,
     columns: usize,
     row: usize,
     place: usize,
     denominator: i64,
+    after: i64,
     numbers: &[i64],
     unwritten: &[bool],
     next: &mut [i64],
@@ -277,10 +386,12 @@ pub fn write_wholes(
     requires room { length next.old ≡ rows * columns }
     requires positive { pos 0 <ℤ denominator }
     requires denominator { IsShort denominator }
+    requires after_positive { pos 0 <ℤ after }
+    requires after { IsShort after }
     requires short { AreShort numbers.now }
     requires next { AreShort next.old }
     requires some { whole_number_at numbers.now (row * columns + place) ≢ pos 0 }
-    ensures written { IsTrue result → AreWritten columns row place denominator numbers.now unwritten.now next.new (rows * columns) }
+    ensures written { IsTrue result → AreWritten columns row place denominator after numbers.now unwritten.now next.new (rows * columns) }
     ensures short { AreShort next.new }
 {
     for at_row in 0..rows {
@@ -290,6 +401,7 @@ pub fn write_wholes(
             row,
             place,
             denominator,
+            after,
             numbers,
             unwritten,
             at_row,

@@ -1,6 +1,6 @@
 -- Rows that an exchange leaves alone where entries are numbers over one denominator, which stays, and marks of these rows.
 use Rattle.std.specs.Prelude.{◌≡◌, ◌≢◌, ℕ, ◌+◌, ◌*◌, ◌<◌, Bool, true, false, List, ℤ, pos}
-use Rattle.table_entries.specs.WholeSteps.{IsShort, IsWholeStep, whole_number_at, is_unwritten}
+use Rattle.table_entries.specs.WholeSteps.{whole_number_at, is_unwritten}
 
 -- the exchange of row r and place s leaves row i alone: it is not the leaving one, and has no entry in the entering place
 pub record IsWholeLeft (columns r s : ℕ) (numbers : List ℤ) (i : ℕ) : Type 0 where
@@ -11,7 +11,3 @@ pub record IsWholeLeft (columns r s : ℕ) (numbers : List ℤ) (i : ℕ) : Type
 pub record AreLeft (rows columns r s : ℕ) (numbers : List ℤ) (unwritten marks : List Bool) : Type 0 where
   pub touched : (i : ℕ) → i < rows → is_unwritten marks i ≡ false → is_unwritten unwritten i ≡ false
   pub left : (i : ℕ) → i < rows → is_unwritten marks i ≡ true → is_unwritten unwritten i ≡ false → IsWholeLeft columns r s numbers i
-
--- n is the number of an entry after the exchange in a row that has no entry in the entering place, whatever the leaving row has at the entry's place
-abbrev pub IsScaled : ℤ → ℤ → ℤ → ℤ → Type 0
-IsScaled denominator pivot entry n = (is_place : Bool) (in_row in_place : ℤ) → IsShort in_row → in_place ≡ pos 0 → (is_place ≡ true → entry ≡ in_place) → IsWholeStep false is_place denominator pivot in_row in_place entry n

@@ -1,8 +1,8 @@
 -- What contracts of private functions alone cite, beside specs/Parts.
-use Rattle.std.specs.Prelude.{◌≡◌, ◌≢◌, ℕ, zero, suc, ◌+◌, ◌-◌, ◌*◌, ◌/◌, ◌^◌, ◌<◌, ◌≤◌, ◌==◌, ltb, if◌then◌else◌, true, List, length, ℤ, pos, ◌+ℤ◌, ◌*ℤ◌, unsigned_abs}
+use Rattle.std.specs.Prelude.{◌≡◌, ◌≢◌, ℕ, zero, suc, ◌+◌, ◌-◌, ◌*◌, ◌^◌, ◌<◌, ◌≤◌, ◌==◌, ltb, if◌then◌else◌, true, List, length, ℤ, pos, ◌+ℤ◌, ◌*ℤ◌, unsigned_abs}
 use Rattle.table_entries.specs.WholeSteps.{whole_number_at}
 use Rattle.table_entries.specs.Listed.{Listed, IsListed}
-use Rattle.table_entries.specs.Parts.{slot_entry, unwritten_entry, row_coefficient, weight}
+use Rattle.table_entries.specs.Parts.{row_coefficient, weight}
 
 -- the sum of the first n products
 abbrev pub combined : (ℕ → ℤ) → (ℕ → ℤ) → ℕ → ℤ
@@ -40,3 +40,8 @@ pub record IsRowTouched (columns row : ℕ) (old new : Listed) : Type 0 where
 pub record IsRowFormed (rows columns : ℕ) (coefficients : List ℤ) (slots : ℕ → ℕ) (row : ℕ) (old new : Listed) : Type 0 where
   pub touched : IsRowTouched columns row old new
   pub written : (k : ℕ) → k < columns → whole_number_at new.numbers (row * columns + k) ≡ unwritten_number rows columns old coefficients slots row k
+
+-- the numbers of the row are the sums of the terms of so many columns
+abbrev pub IsFront : ℕ → ℕ → Listed → List ℤ → (ℕ → ℕ) → ℕ → ℕ → List ℤ → Type 0
+IsFront rows columns entries coefficients slots row column numbers =
+    (k : ℕ) → k < columns → whole_number_at numbers (row * columns + k) ≡ combined (row_coefficient columns coefficients row) (λ j. slot_number rows columns entries (slots j) k) column

@@ -1,5 +1,5 @@
 -- What contracts of private functions alone cite, beside specs/Steps.
-use Rattle.std.specs.Prelude.{ℕ, ◌*◌}
+use Rattle.std.specs.Prelude.{ℕ}
 use Rattle.frac128.specs.Rational.{ℚ, ◌/ℚ◌}
 use Rattle.frac128.specs.Range.{Fits}
 use Rattle.table_entries.specs.Relaxation.{Relaxation, Table, reduced_cost}

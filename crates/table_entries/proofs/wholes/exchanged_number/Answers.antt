@@ -1,122 +1,71 @@
-use Rattle.std.proofs.Common.{refl, sym, ap, ap₂, subst, ◌∙◌, arith, ◌≡◌, ◌⊎◌, true, false, ℤ, ◌-ℤ◌, ◌*ℤ◌, pos, unsigned_abs, ◌≤◌, ◌^◌, to_z, of_z, w64}
+use Rattle.std.proofs.Common.{◌≡◌, ◌≤◌, ◌^◌, ◌∙◌, sym, ap, subst, arith, ◌-ℤ◌, ◌*ℤ◌, unsigned_abs, to_z, of_z}
 use Rattle.std.specs.Int.{w128}
 use Rattle.std.proofs.lemmas.Int.{ints}
 use Rattle.std.proofs.lemmas.Option.{IfSome_then}
-use Rattle.table_entries.specs.WholeSteps.{IsShort, by_sign, magnitude}
-use Rattle.table_entries.proofs.ReadLemmas.{short_read, short_again, short_as, short_as_again, difference_read}
 use Rattle.whole_sums.proofs.RoomLemmas.{short_product}
-use Rattle.whole_sums.proofs.SumLemmas.{both}
-use Rattle.table_entries.proofs.WholeLemmas.{whole_corner, whole_row, whole_place, whole_other, whole_kept, by_sign-short, step_at}
+use Rattle.table_entries.specs.private.Ways.{divided}
+use Rattle.table_entries.proofs.ReadLemmas.{short_read, short_again, product_read, difference_read}
 use Rattle.table_entries.proofs.wholes.exchanged_number.Goals as goal
 
--- the number with the sign of the pivot, of numbers that are read
-signed_read : (p n r : ℤ) → IsShort p → IsShort n → r ≡ by_sign (to_z w64 (of_z w64 p)) (to_z w64 (of_z w64 n)) → r ≡ by_sign p n
-signed_read p n r p_short n_short e = e ∙ ap₂ by_sign (short_read p p_short) (short_read n n_short)
+pub product-requires-clause-first : goal.product-requires-clause-first
+product-requires-clause-first c = short_again c.args.way.now.factor c.requires.factor
 
--- the product of numbers that are read
-product_of : (m n a b r : ℤ) → m ≡ a → n ≡ b → IsShort a → IsShort b → r ≡ to_z w64 (of_z w64 m) *ℤ to_z w64 (of_z w64 n) → r ≡ a *ℤ b
-product_of m n a b r m_is n_is a_short b_short e = e ∙ ap₂ ◌*ℤ◌ (short_as m a m_is a_short) (short_as n b n_is b_short)
+pub product-requires-clause-second : goal.product-requires-clause-second
+product-requires-clause-second c = short_again c.args.denominator c.requires.denominator
 
-product_small : (a b r : ℤ) → r ≡ a *ℤ b → IsShort a → IsShort b → unsigned_abs r ≤ 2 ^ 124
-product_small a b r e a_short b_short = subst (λ n. unsigned_abs n ≤ 2 ^ 124) (sym e) (short_product a b a_short b_short)
+pub product-whole-requires-clause-first : goal.product-whole-requires-clause-first
+product-whole-requires-clause-first c = short_again c.args.entry c.requires.entry
 
-pub by_sign-requires : goal.by_sign-requires
-by_sign-requires c = short_again c.args.denominator c.requires.denominator
-
-pub overflow_sub-in_row : goal.overflow_sub-in_row
-overflow_sub-in_row c = let h = c.requires.in_row in omega (arith, ints, h)
-
-pub by_sign-requires-else-is_place : goal.by_sign-requires-else-is_place
-by_sign-requires-else-is_place c = let h = c.requires.in_row in omega (arith, ints, h)
-
-pub by_sign-requires-then-is_place-2 : goal.by_sign-requires-then-is_place-2
-by_sign-requires-then-is_place-2 c = short_again c.args.in_place c.requires.in_place
-
-pub abs-requires : goal.abs-requires
-abs-requires c = let h = c.requires.pivot in omega (arith, ints, h)
-
-pub product-scaled-requires-clause-first : goal.product-scaled-requires-clause-first
-product-scaled-requires-clause-first c = short_again c.args.entry c.requires.entry
-
-pub product-scaled-requires-clause-second : goal.product-scaled-requires-clause-second
-product-scaled-requires-clause-second c = short_as_again c.abs.result (magnitude c.args.pivot) (c.abs.ensures.value ∙ ap magnitude (short_read c.args.pivot c.requires.pivot)) c.requires.pivot
-
-pub by_sign-requires-else-is_kept : goal.by_sign-requires-else-is_kept
-by_sign-requires-else-is_kept c = short_again c.args.in_place c.requires.in_place
+pub product-whole-requires-clause-second : goal.product-whole-requires-clause-second
+product-whole-requires-clause-second c = short_again c.args.way.now.scale c.requires.scale
 
 pub product-taken-requires-clause-first : goal.product-taken-requires-clause-first
-product-taken-requires-clause-first c =
-    let a = c.args in
-    short_as_again c.by_sign-else-is_kept.result (by_sign a.pivot a.in_place) (signed_read a.pivot a.in_place _ c.requires.pivot c.requires.in_place c.by_sign-else-is_kept.ensures) (by_sign-short a.pivot a.in_place c.requires.in_place)
+product-taken-requires-clause-first c = short_again c.args.way.now.factor c.requires.factor
 
 pub product-taken-requires-clause-second : goal.product-taken-requires-clause-second
 product-taken-requires-clause-second c = short_again c.args.in_row c.requires.in_row
 
-pub overflow_sub-scaled : goal.overflow_sub-scaled
-overflow_sub-scaled c =
+pub overflow_sub-whole : goal.overflow_sub-whole
+overflow_sub-whole c =
     let a = c.args in
-    let e : c.abs.result ≡ magnitude a.pivot = c.abs.ensures.value ∙ ap magnitude (short_read a.pivot c.requires.pivot) in
-    let s : c.by_sign-else-is_kept.result ≡ by_sign a.pivot a.in_place = signed_read a.pivot a.in_place _ c.requires.pivot c.requires.in_place c.by_sign-else-is_kept.ensures in
-    let s_short : IsShort (by_sign a.pivot a.in_place) = by_sign-short a.pivot a.in_place c.requires.in_place in
-    let left : c.product-scaled.result ≡ a.entry *ℤ magnitude a.pivot = product_of _ _ a.entry (magnitude a.pivot) _ refl e c.requires.entry c.requires.pivot c.product-scaled.ensures in
-    let right : c.product-taken.result ≡ by_sign a.pivot a.in_place *ℤ a.in_row = product_of _ _ (by_sign a.pivot a.in_place) a.in_row _ s refl s_short c.requires.in_row c.product-taken.ensures in
-    let left_room = product_small a.entry (magnitude a.pivot) _ left c.requires.entry c.requires.pivot in
-    let right_room = product_small (by_sign a.pivot a.in_place) a.in_row _ right s_short c.requires.in_row in
-    omega (arith, ints, left_room, right_room)
+    let w = a.way.now in
+    let e : c.product-whole.result ≡ a.entry *ℤ w.scale = c.product-whole.ensures ∙ (λ i. short_read a.entry c.requires.entry i *ℤ short_read w.scale c.requires.scale i) in
+    let f : c.product-taken.result ≡ w.factor *ℤ a.in_row = c.product-taken.ensures ∙ (λ i. short_read w.factor c.requires.factor i *ℤ short_read a.in_row c.requires.in_row i) in
+    let small_e : unsigned_abs c.product-whole.result ≤ 2 ^ 124 = subst (λ x. unsigned_abs x ≤ 2 ^ 124) (sym e) (short_product a.entry w.scale c.requires.entry c.requires.scale) in
+    let small_f : unsigned_abs c.product-taken.result ≤ 2 ^ 124 = subst (λ x. unsigned_abs x ≤ 2 ^ 124) (sym f) (short_product w.factor a.in_row c.requires.factor c.requires.in_row) in
+    omega (arith, ints, small_e, small_f)
 
-pub returns-then-is_place : goal.returns-then-is_place
-returns-then-is_place c =
+pub returns-then-is_place-clause-product : goal.returns-then-is_place-clause-product
+returns-then-is_place-clause-product c =
     let a = c.args in
-    let e : c.by_sign.result ≡ by_sign a.pivot a.denominator = signed_read a.pivot a.denominator _ c.requires.pivot c.requires.denominator c.by_sign.ensures in
-    let n = short_as c.by_sign.result (by_sign a.pivot a.denominator) e (by_sign-short a.pivot a.denominator c.requires.denominator) in
-    step_at a.is_row a.is_place true true a.denominator a.pivot a.in_row a.in_place a.entry (by_sign a.pivot a.denominator) (to_z w64 (of_z w64 c.by_sign.result)) c.if-is_row.true c.if-is_place.true n
-    (whole_corner a.denominator a.pivot c.requires.positive c.requires.some c.requires.denominator c.requires.pivot a.in_row a.in_place a.entry)
+    let w = a.way.now in
+    let made : c.product.result ≡ w.factor *ℤ a.denominator = c.product.ensures ∙ (λ i. short_read w.factor c.requires.factor i *ℤ short_read a.denominator c.requires.denominator i) in
+    let small = short_product w.factor a.denominator c.requires.factor c.requires.denominator in
+    let read : to_z w128 (of_z w128 c.product.result) ≡ divided a.is_place a.denominator w.factor w.scale a.in_row a.entry =
+    ap (λ x. to_z w128 (of_z w128 x)) made ∙ product_read (w.factor *ℤ a.denominator) (omega (arith, small)) ∙ ap (λ b. divided b a.denominator w.factor w.scale a.in_row a.entry) (sym c.if-is_place.true) in
+    IfSome_then c.scaled.result c.scaled.ensures.product (λ n h. h ∙ ap (λ x. x *ℤ w.multiplier) read)
 
-pub returns-else-is_place : goal.returns-else-is_place
-returns-else-is_place c =
-    let a = c.args in
-    let h = c.requires.in_row in
-    let short : IsShort (pos 0 -ℤ a.in_row) = omega (arith, ints, h) in
-    let e : c.by_sign-else-is_place.result ≡ by_sign a.pivot (pos 0 -ℤ a.in_row) = c.by_sign-else-is_place.ensures ∙ ap₂ by_sign (short_read a.pivot c.requires.pivot) (omega (arith, ints, h)) in
-    let n = short_as c.by_sign-else-is_place.result (by_sign a.pivot (pos 0 -ℤ a.in_row)) e (by_sign-short a.pivot (pos 0 -ℤ a.in_row) short) in
-    step_at a.is_row a.is_place true false a.denominator a.pivot a.in_row a.in_place a.entry (by_sign a.pivot (pos 0 -ℤ a.in_row)) (to_z w64 (of_z w64 c.by_sign-else-is_place.result)) c.if-is_row.true c.if-is_place.false n
-    (whole_row a.denominator a.pivot c.requires.positive c.requires.some c.requires.denominator c.requires.pivot a.in_row a.in_place a.entry c.requires.in_row)
+pub returns-then-is_kept-clause-short : goal.returns-then-is_kept-clause-short
+returns-then-is_kept-clause-short c = short_again c.args.entry c.requires.entry
 
-pub returns-then-is_place-2 : goal.returns-then-is_place-2
-returns-then-is_place-2 c =
+pub returns-then-is_kept-clause-product : goal.returns-then-is_kept-clause-product
+returns-then-is_kept-clause-product c =
     let a = c.args in
-    let e : c.by_sign-then-is_place-2.result ≡ by_sign a.pivot a.in_place = signed_read a.pivot a.in_place _ c.requires.pivot c.requires.in_place c.by_sign-then-is_place-2.ensures in
-    let n = short_as c.by_sign-then-is_place-2.result (by_sign a.pivot a.in_place) e (by_sign-short a.pivot a.in_place c.requires.in_place) in
-    step_at a.is_row a.is_place false true a.denominator a.pivot a.in_row a.in_place a.entry (by_sign a.pivot a.in_place) (to_z w64 (of_z w64 c.by_sign-then-is_place-2.result)) c.if-is_row.false c.if-is_place-2.true n
-    (whole_place a.denominator a.pivot c.requires.positive c.requires.some c.requires.denominator c.requires.pivot a.in_row a.in_place a.entry c.requires.in_place)
+    let w = a.way.now in
+    let x_is = short_read a.in_row c.requires.in_row in
+    let e_is = short_read a.entry c.requires.entry in
+    let kept : a.entry *ℤ w.divisor ≡ (a.entry *ℤ w.scale -ℤ w.factor *ℤ a.in_row) *ℤ w.multiplier =
+    subst (λ X. X) (λ i. e_is i *ℤ w.divisor ≡ (e_is i *ℤ w.scale -ℤ w.factor *ℤ x_is i) *ℤ w.multiplier) (c.is_kept.ensures c.if-is_kept.true) in
+    ap (λ x. x *ℤ w.divisor) e_is ∙ kept ∙ ap (λ b. divided b a.denominator w.factor w.scale a.in_row a.entry *ℤ w.multiplier) (sym c.if-is_place.false)
 
-pub returns-else-is_kept : goal.returns-else-is_kept
-returns-else-is_kept c =
+pub returns-clause-product : goal.returns-clause-product
+returns-clause-product c =
     let a = c.args in
-    let e : c.abs.result ≡ magnitude a.pivot = c.abs.ensures.value ∙ ap magnitude (short_read a.pivot c.requires.pivot) in
-    let s : c.by_sign-else-is_kept.result ≡ by_sign a.pivot a.in_place = signed_read a.pivot a.in_place _ c.requires.pivot c.requires.in_place c.by_sign-else-is_kept.ensures in
-    let s_short : IsShort (by_sign a.pivot a.in_place) = by_sign-short a.pivot a.in_place c.requires.in_place in
-    let left : c.product-scaled.result ≡ a.entry *ℤ magnitude a.pivot = product_of _ _ a.entry (magnitude a.pivot) _ refl e c.requires.entry c.requires.pivot c.product-scaled.ensures in
-    let right : c.product-taken.result ≡ by_sign a.pivot a.in_place *ℤ a.in_row = product_of _ _ (by_sign a.pivot a.in_place) a.in_row _ s refl s_short c.requires.in_row c.product-taken.ensures in
-    let left_room = product_small a.entry (magnitude a.pivot) _ left c.requires.entry c.requires.pivot in
-    let right_room = product_small (by_sign a.pivot a.in_place) a.in_row _ right s_short c.requires.in_row in
-    let d1 = short_read a.denominator c.requires.denominator in
-    let w : to_z w128 (of_z w128 (to_z w128 (of_z w128 c.product-scaled.result) -ℤ to_z w128 (of_z w128 c.product-taken.result))) ≡ c.product-scaled.result -ℤ c.product-taken.result =
-    difference_read c.product-scaled.result c.product-taken.result left_room right_room in
-    IfSome_then c.exact_quotient.result (both _ _ c.exact_quotient.result c.exact_quotient.ensures.product c.exact_quotient.ensures.short) (λ n h.
-    step_at a.is_row a.is_place false false a.denominator a.pivot a.in_row a.in_place a.entry n n c.if-is_row.false c.if-is_place-2.false refl
-    (whole_other a.denominator a.pivot c.requires.positive c.requires.some c.requires.denominator c.requires.pivot a.in_row a.in_place a.entry c.requires.in_row c.requires.in_place c.requires.entry n h.1
-    (ap (λ d. n *ℤ d) (sym d1) ∙ h.0 ∙ w ∙ ap₂ (λ x y. x -ℤ y) left right)))
-
-pub returns-then-is_kept : goal.returns-then-is_kept
-returns-then-is_kept c =
-    let a = c.args in
-    let p_is = short_read a.pivot c.requires.pivot in
-    let d_is = short_read a.denominator c.requires.denominator in
-    let r_is = short_read a.in_row c.requires.in_row in
-    let s_is = short_read a.in_place c.requires.in_place in
-    let n = short_read a.entry c.requires.entry in
-    step_at a.is_row a.is_place false false a.denominator a.pivot a.in_row a.in_place a.entry a.entry (to_z w64 (of_z w64 a.entry)) c.if-is_row.false c.if-is_place-2.false n
-    (whole_kept a.denominator a.pivot c.requires.positive c.requires.some c.requires.denominator c.requires.pivot a.in_row a.in_place a.entry c.requires.in_row c.requires.in_place c.requires.entry
-    (subst (λ X. X) (λ i. (n i ≡ pos 0) ⊎ (magnitude (p_is i) ≡ d_is i)) (c.is_kept.ensures.scale c.if-is_kept.true))
-    (subst (λ X. X) (λ i. (r_is i ≡ pos 0) ⊎ (s_is i ≡ pos 0)) (c.is_kept.ensures.nothing c.if-is_kept.true)))
+    let w = a.way.now in
+    let e : c.product-whole.result ≡ a.entry *ℤ w.scale = c.product-whole.ensures ∙ (λ i. short_read a.entry c.requires.entry i *ℤ short_read w.scale c.requires.scale i) in
+    let f : c.product-taken.result ≡ w.factor *ℤ a.in_row = c.product-taken.ensures ∙ (λ i. short_read w.factor c.requires.factor i *ℤ short_read a.in_row c.requires.in_row i) in
+    let read : to_z w128 (of_z w128 (to_z w128 (of_z w128 c.product-whole.result) -ℤ to_z w128 (of_z w128 c.product-taken.result))) ≡ divided a.is_place a.denominator w.factor w.scale a.in_row a.entry =
+    (λ i. to_z w128 (of_z w128 (to_z w128 (of_z w128 (e i)) -ℤ to_z w128 (of_z w128 (f i)))))
+    ∙ difference_read (a.entry *ℤ w.scale) (w.factor *ℤ a.in_row) (short_product a.entry w.scale c.requires.entry c.requires.scale) (short_product w.factor a.in_row c.requires.factor c.requires.in_row)
+    ∙ ap (λ b. divided b a.denominator w.factor w.scale a.in_row a.entry) (sym c.if-is_place.false) in
+    IfSome_then c.scaled-2.result c.scaled-2.ensures.product (λ n h. h ∙ ap (λ x. x *ℤ w.multiplier) read)

@@ -1,6 +1,7 @@
-use Rattle.std.proofs.Common.{refl, sym, ap, subst, ◌∙◌, arith, pos, ◌≡◌, ◌≢◌, ◌<◌, ◌+◌, ◌*◌, length, to_z, of_z, w64}
-use Rattle.table_entries.specs.WholeSteps.{IsShort, WholeAt, whole_number_at}
+use Rattle.std.proofs.Common.{refl, sym, ap, subst, subst₂, ◌∙◌, arith, pos, ℕ, ℤ, List, ◌≡◌, ◌≢◌, ◌<◌, ◌+◌, ◌*◌, ◌==◌, length, to_z, of_z, w64}
+use Rattle.table_entries.specs.WholeSteps.{IsShort, AreShort, WholeAt, whole_number_at}
 use Rattle.table_entries.proofs.ReadLemmas.{short_read, short_again, positive_again}
+use Rattle.table_entries.proofs.WholeLemmas.{way_step}
 use Rattle.table_entries.proofs.WholeListLemmas.{step_written, row_left_out, short_more}
 use Rattle.table_entries.proofs.wholes.write_whole_row.Goals as goal
 
@@ -31,47 +32,73 @@ bounds-numbers-at c = let w = c.flat_index-at.ensures.within in let e = c.requir
 pub bounds-next-at : goal.bounds-next-at
 bounds-next-at c = let w = c.loop-at_place.auto.next in let v = c.requires.room in let u = c.flat_index-at.ensures.within in omega (arith, w, v, u)
 
+pivot_is : (rows columns row place : ℕ) (numbers : List ℤ) (at : ℕ) → row < rows → at ≡ row * columns + place → at < rows * columns → length numbers ≡ rows * columns → AreShort numbers
+    → (to_z w64 (of_z w64 (whole_number_at numbers at)) ≡ whole_number_at numbers (row * columns + place)) × IsShort (whole_number_at numbers (row * columns + place))
+pivot_is rows columns row place numbers at row_within at_is within size short =
+    let inside : at < length numbers = omega (arith, within, size) in
+    let here : IsShort (whole_number_at numbers at) = short at inside in
+    (short_read (whole_number_at numbers at) here ∙ ap (whole_number_at numbers) at_is, subst (λ k. IsShort (whole_number_at numbers k)) at_is here)
+
+pub way_of-requires-clause-some : goal.way_of-requires-clause-some
+way_of-requires-clause-some c =
+    let a = c.args in
+    let h = pivot_is a.rows a.columns a.row a.place a.numbers.now c.flat_index.result c.requires.row c.flat_index.ensures.value c.flat_index.ensures.within c.requires.size c.requires.short in
+    subst (λ n. n ≢ pos 0) (sym h.0) c.requires.some
+
+pub way_of-requires-clause-positive : goal.way_of-requires-clause-positive
+way_of-requires-clause-positive c = positive_again c.args.denominator c.requires.denominator c.requires.positive
+
+pub way_of-requires-clause-denominator : goal.way_of-requires-clause-denominator
+way_of-requires-clause-denominator c = short_again c.args.denominator c.requires.denominator
+
+pub way_of-requires-clause-after : goal.way_of-requires-clause-after
+way_of-requires-clause-after c = short_again c.args.after c.requires.after
+
+pub way_of-requires-clause-pivot : goal.way_of-requires-clause-pivot
+way_of-requires-clause-pivot c =
+    let a = c.args in
+    let h = pivot_is a.rows a.columns a.row a.place a.numbers.now c.flat_index.result c.requires.row c.flat_index.ensures.value c.flat_index.ensures.within c.requires.size c.requires.short in
+    subst IsShort (sym h.0) h.1
+
+pub way_of-requires-clause-in_place : goal.way_of-requires-clause-in_place
+way_of-requires-clause-in_place c =
+    let a = c.args in
+    let h = pivot_is a.rows a.columns a.at_row a.place a.numbers.now c.flat_index-2.result c.requires.at_row c.flat_index-2.ensures.value c.flat_index-2.ensures.within c.requires.size c.requires.short in
+    subst IsShort (sym h.0) h.1
+
 pub of-inverse-requires : goal.of-inverse-requires
-of-inverse-requires c = positive_again c.args.denominator c.requires.denominator c.requires.positive
-
-pub exchanged_number-requires-clause-positive : goal.exchanged_number-requires-clause-positive
-exchanged_number-requires-clause-positive c = positive_again c.args.denominator c.requires.denominator c.requires.positive
-
-pub exchanged_number-requires-clause-denominator : goal.exchanged_number-requires-clause-denominator
-exchanged_number-requires-clause-denominator c = short_again c.args.denominator c.requires.denominator
+of-inverse-requires c = positive_again c.in-Some.way.divisor c.in-Some.ensures.divisor_short c.in-Some.ensures.positive
 
 pub loop-at_place-init : goal.loop-at_place-init
 loop-at_place-init c =
     let a = c.args in
     let numbers = a.numbers.now in
     let d1 = short_read a.denominator c.requires.denominator in
-    let p = c.flat_index.result in
-    let q = c.flat_index-2.result in
-    let wp : p < length numbers = let w = c.flat_index.ensures.within in let e = c.requires.size in omega (arith, w, e) in
-    let wq : q < length numbers = let w = c.flat_index-2.ensures.within in let e = c.requires.size in omega (arith, w, e) in
-    let read_p = short_read (whole_number_at numbers p) (c.requires.short p wp) in
-    let read_q = short_read (whole_number_at numbers q) (c.requires.short q wq) in
+    let after_is = short_read a.after c.requires.after in
+    let hp = pivot_is a.rows a.columns a.row a.place numbers c.flat_index.result c.requires.row c.flat_index.ensures.value c.flat_index.ensures.within c.requires.size c.requires.short in
+    let hq = pivot_is a.rows a.columns a.at_row a.place numbers c.flat_index-2.result c.requires.at_row c.flat_index-2.ensures.value c.flat_index-2.ensures.within c.requires.size c.requires.short in
     record {
-      written = λ at less flag. subst (λ d. WholeAt a.columns a.row a.place d numbers (whole_number_at a.next.now at) at) (sym d1) (c.requires.earlier at (omega (arith, less)) flag);
+      written = λ at less flag. subst₂ (λ d g. WholeAt a.columns a.row a.place d g numbers (whole_number_at a.next.now at) at) (sym d1) (sym after_is) (c.requires.earlier at (omega (arith, less)) flag);
       short = c.requires.next;
-      pivot = read_p ∙ ap (whole_number_at numbers) c.flat_index.ensures.value;
-      in_place = read_q ∙ ap (whole_number_at numbers) c.flat_index-2.ensures.value;
+      pivot = hp.0;
+      in_place = hq.0;
+      way = c.in-Some.ensures;
     }
 
-pub exchanged_number-requires-clause-some : goal.exchanged_number-requires-clause-some
-exchanged_number-requires-clause-some c = subst (λ n. n ≢ pos 0) (sym c.loop-at_place.invariant.pivot) c.requires.some
+pub exchanged_number-requires-clause-denominator : goal.exchanged_number-requires-clause-denominator
+exchanged_number-requires-clause-denominator c = short_again c.args.denominator c.requires.denominator
 
-pub exchanged_number-requires-clause-pivot : goal.exchanged_number-requires-clause-pivot
-exchanged_number-requires-clause-pivot c =
-    let a = c.args in
-    let inside : a.row * a.columns + a.place < length a.numbers.now = let v = c.flat_index.ensures.value in let w = c.flat_index.ensures.within in let e = c.requires.size in omega (arith, v, w, e) in
-    subst IsShort (sym c.loop-at_place.invariant.pivot) (c.requires.short (a.row * a.columns + a.place) inside)
+pub exchanged_number-requires-clause-factor : goal.exchanged_number-requires-clause-factor
+exchanged_number-requires-clause-factor c = c.loop-at_place.invariant.way.factor_short
 
-pub exchanged_number-requires-clause-in_place : goal.exchanged_number-requires-clause-in_place
-exchanged_number-requires-clause-in_place c =
-    let a = c.args in
-    let inside : a.at_row * a.columns + a.place < length a.numbers.now = let v = c.flat_index-2.ensures.value in let w = c.flat_index-2.ensures.within in let e = c.requires.size in omega (arith, v, w, e) in
-    subst IsShort (sym c.loop-at_place.invariant.in_place) (c.requires.short (a.at_row * a.columns + a.place) inside)
+pub exchanged_number-requires-clause-scale : goal.exchanged_number-requires-clause-scale
+exchanged_number-requires-clause-scale c = c.loop-at_place.invariant.way.scale_short
+
+pub exchanged_number-requires-clause-divisor : goal.exchanged_number-requires-clause-divisor
+exchanged_number-requires-clause-divisor c = c.loop-at_place.invariant.way.divisor_short
+
+pub exchanged_number-requires-clause-multiplier : goal.exchanged_number-requires-clause-multiplier
+exchanged_number-requires-clause-multiplier c = c.loop-at_place.invariant.way.multiplier_short
 
 pub exchanged_number-requires-clause-in_row : goal.exchanged_number-requires-clause-in_row
 exchanged_number-requires-clause-in_row c =
@@ -94,27 +121,31 @@ loop-at_place-preserved c =
     let numbers = a.numbers.now in
     let i1 = c.flat_index-in-loop-at_place.result in
     let i2 = c.flat_index-at.result in
-    let w1 : i1 < length numbers = let w = c.flat_index-in-loop-at_place.ensures.within in let e = c.requires.size in omega (arith, w, e) in
-    let w2 : i2 < length numbers = let w = c.flat_index-at.ensures.within in let e = c.requires.size in omega (arith, w, e) in
-    let short1 : IsShort (whole_number_at numbers i1) = c.requires.short i1 w1 in
-    let short2 : IsShort (whole_number_at numbers i2) = c.requires.short i2 w2 in
-    let row_is : to_z w64 (of_z w64 (whole_number_at numbers i1)) ≡ whole_number_at numbers (a.row * a.columns + k) = short_read (whole_number_at numbers i1) short1 ∙ ap (whole_number_at numbers) c.flat_index-in-loop-at_place.ensures.value in
-    let entry_is : to_z w64 (of_z w64 (whole_number_at numbers i2)) ≡ whole_number_at numbers (a.at_row * a.columns + k) = short_read (whole_number_at numbers i2) short2 ∙ ap (whole_number_at numbers) c.flat_index-at.ensures.value in
+    let h1 = pivot_is a.rows a.columns a.row k numbers i1 c.requires.row c.flat_index-in-loop-at_place.ensures.value c.flat_index-in-loop-at_place.ensures.within c.requires.size c.requires.short in
+    let h2 = pivot_is a.rows a.columns a.at_row k numbers i2 c.requires.at_row c.flat_index-at.ensures.value c.flat_index-at.ensures.within c.requires.size c.requires.short in
+    let hp = pivot_is a.rows a.columns a.row a.place numbers c.flat_index.result c.requires.row c.flat_index.ensures.value c.flat_index.ensures.within c.requires.size c.requires.short in
+    let hq = pivot_is a.rows a.columns a.at_row a.place numbers c.flat_index-2.result c.requires.at_row c.flat_index-2.ensures.value c.flat_index-2.ensures.within c.requires.size c.requires.short in
+    let inv = c.loop-at_place.invariant in
     let room : i2 < length c.loop-at_place.next = let w = c.loop-at_place.auto.next in let v = c.requires.room in let u = c.flat_index-at.ensures.within in omega (arith, w, v, u) in
-    let h = c.in-Some.ensures in
-    let number_short = short_again c.in-Some.number h.short in
+    let number = c.in-Some-exchanged_number.number in
+    let short : IsShort number = c.in-Some-exchanged_number.ensures.short in
+    let h = way_step _ _ _ (positive_again a.denominator c.requires.denominator c.requires.positive) (positive_again a.after c.requires.after c.requires.after_positive)
+    (subst (λ n. n ≢ pos 0) (sym inv.pivot) c.requires.some) (short_again a.denominator c.requires.denominator) (subst IsShort (sym inv.pivot) hp.1)
+    _ _ _ (subst IsShort (sym h1.0) h1.1) (subst IsShort (sym inv.in_place) hq.1) (subst IsShort (sym h2.0) h2.1)
+    _ _ _ _ number short (a.at_row == a.row) (k == a.place) inv.way c.in-Some-exchanged_number.ensures.product in
     record {
-      written = step_written a.columns a.row a.place _ numbers a.unwritten.now c.loop-at_place.next a.at_row k c.loop-at_place-test.true _ _ _ _ _ c.in-Some.number refl c.loop-at_place.invariant.pivot row_is c.loop-at_place.invariant.in_place entry_is
-          i2 c.flat_index-at.ensures.value room (to_z w64 (of_z w64 c.in-Some.number)) (short_read c.in-Some.number h.short) h c.loop-at_place.invariant.written;
-      short = short_more c.loop-at_place.next i2 (to_z w64 (of_z w64 c.in-Some.number)) number_short c.loop-at_place.invariant.short;
-      pivot = c.loop-at_place.invariant.pivot;
-      in_place = c.loop-at_place.invariant.in_place;
+      written = step_written a.columns a.row a.place _ _ numbers a.unwritten.now c.loop-at_place.next a.at_row k c.loop-at_place-test.true _ _ _ _ _ _ number refl refl inv.pivot h1.0 inv.in_place h2.0
+          i2 c.flat_index-at.ensures.value room (to_z w64 (of_z w64 number)) (short_read number short) h inv.written;
+      short = short_more c.loop-at_place.next i2 (to_z w64 (of_z w64 number)) (short_again number short) inv.short;
+      pivot = inv.pivot;
+      in_place = inv.in_place;
+      way = inv.way;
     }
 
 pub returns-then-is_unwritten-clause-written : goal.returns-then-is_unwritten-clause-written
 returns-then-is_unwritten-clause-written c = λ t.
     let a = c.args in
-    row_left_out a.columns a.row a.place a.denominator a.numbers.now a.unwritten.now a.next.now a.at_row (sym c.is_unwritten.ensures ∙ c.if-is_unwritten.true) c.requires.earlier
+    row_left_out a.columns a.row a.place a.denominator a.after a.numbers.now a.unwritten.now a.next.now a.at_row (sym c.is_unwritten.ensures ∙ c.if-is_unwritten.true) c.requires.earlier
 
 pub returns-clause-written : goal.returns-clause-written
 returns-clause-written c = λ t at less flag.
@@ -122,37 +153,11 @@ returns-clause-written c = λ t at less flag.
     let d1 = short_read a.denominator c.requires.denominator in
     let past = c.loop-at_place-test.false in
     let inside : at < a.at_row * a.columns + c.loop-at_place.at_place = omega (arith, less, past) in
-    subst (λ d. WholeAt a.columns a.row a.place d a.numbers.now (whole_number_at c.loop-at_place.next at) at) d1 (c.loop-at_place.invariant.written at inside flag)
+    let after_is = short_read a.after c.requires.after in
+    subst₂ (λ d g. WholeAt a.columns a.row a.place d g a.numbers.now (whole_number_at c.loop-at_place.next at) at) d1 after_is (c.loop-at_place.invariant.written at inside flag)
 
 pub returns-clause-short : goal.returns-clause-short
 returns-clause-short c = c.loop-at_place.invariant.short
 
 pub returns-in-None-clause-short : goal.returns-in-None-clause-short
 returns-in-None-clause-short c = c.loop-at_place.invariant.short
-
-pub returns-then-in_place-eq0-clause-written : goal.returns-then-in_place-eq0-clause-written
-returns-then-in_place-eq0-clause-written c = λ t at less flag.
-    let a = c.args in
-    let d1 = short_read a.denominator c.requires.denominator in
-    subst (λ d. WholeAt a.columns a.row a.place d a.numbers.now (whole_number_at c.write_scaled_row.new.next at) at) d1 (c.write_scaled_row.ensures.written t at less flag)
-
-pub write_scaled_row-requires-clause-positive : goal.write_scaled_row-requires-clause-positive
-write_scaled_row-requires-clause-positive c = positive_again c.args.denominator c.requires.denominator c.requires.positive
-
-pub write_scaled_row-requires-clause-denominator : goal.write_scaled_row-requires-clause-denominator
-write_scaled_row-requires-clause-denominator c = short_again c.args.denominator c.requires.denominator
-
-pub write_scaled_row-requires-clause-nothing : goal.write_scaled_row-requires-clause-nothing
-write_scaled_row-requires-clause-nothing c =
-    let numbers = c.args.numbers.now in
-    let q = c.flat_index-2.result in
-    let wq : q < length numbers = let w = c.flat_index-2.ensures.within in let e = c.requires.size in omega (arith, w, e) in
-    let read_q = short_read (whole_number_at numbers q) (c.requires.short q wq) in
-    let nothing : whole_number_at numbers q ≡ pos 0 = sym read_q ∙ ap (to_z w64) c.if-in_place-eq0.true in
-    sym (ap (whole_number_at numbers) c.flat_index-2.ensures.value) ∙ nothing
-
-pub write_scaled_row-requires-clause-earlier : goal.write_scaled_row-requires-clause-earlier
-write_scaled_row-requires-clause-earlier c = λ at less flag.
-    let a = c.args in
-    let d1 = short_read a.denominator c.requires.denominator in
-    subst (λ d. WholeAt a.columns a.row a.place d a.numbers.now (whole_number_at a.next.now at) at) (sym d1) (c.requires.earlier at less flag)

@@ -1,4 +1,4 @@
-use Rattle.std.proofs.Common.{subst, arith, ◌<◌, ◌≤◌, ◌*◌}
+use Rattle.std.proofs.Common.{subst₂, arith, ◌<◌, ◌≤◌, ◌*◌}
 use Rattle.std.proofs.Math.Nat.{mul-le-mul_right}
 use Rattle.table_entries.specs.WholeSteps.{WholeAt, whole_number_at}
 use Rattle.table_entries.proofs.ReadLemmas.{short_read, short_again, positive_again}
@@ -11,7 +11,8 @@ returns-clause-written c = λ t at less flag.
     let past : a.rows ≤ c.loop-at_row.at_row = c.loop-at_row-test.false in
     let all : a.rows * a.columns ≤ c.loop-at_row.at_row * a.columns = mul-le-mul_right a.columns past in
     let inside : at < c.loop-at_row.at_row * a.columns = omega (arith, less, all) in
-    subst (λ d. WholeAt a.columns a.row a.place d a.numbers.now (whole_number_at c.loop-at_row.next at) at) d1 (c.loop-at_row.invariant.written at inside flag)
+    let after_is = short_read a.after c.requires.after in
+    subst₂ (λ d g. WholeAt a.columns a.row a.place d g a.numbers.now (whole_number_at c.loop-at_row.next at) at) d1 after_is (c.loop-at_row.invariant.written at inside flag)
 
 pub loop-at_row-init : goal.loop-at_row-init
 loop-at_row-init c = record { written = λ at less flag. absurd (omega (arith, less)); short = c.requires.next }
@@ -36,3 +37,9 @@ loop-at_row-preserved c = record { written = c.write_whole_row.ensures.written c
 
 pub returns-clause-short : goal.returns-clause-short
 returns-clause-short c = c.loop-at_row.invariant.short
+
+pub write_whole_row-requires-clause-after_positive : goal.write_whole_row-requires-clause-after_positive
+write_whole_row-requires-clause-after_positive c = positive_again c.args.after c.requires.after c.requires.after_positive
+
+pub write_whole_row-requires-clause-after : goal.write_whole_row-requires-clause-after
+write_whole_row-requires-clause-after c = short_again c.args.after c.requires.after

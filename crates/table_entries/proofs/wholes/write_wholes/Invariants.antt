@@ -4,6 +4,6 @@ use Rattle.table_entries.proofs.wholes.write_wholes.Given as goal
 
 abbrev pub invariant-loop-at_row : goal.invariant-loop-at_row
 invariant-loop-at_row l = record {
-  written : AreWritten l.columns l.row l.place l.denominator l.numbers l.unwritten l.next (l.at_row * l.columns);
+  written : AreWritten l.columns l.row l.place l.denominator l.after l.numbers l.unwritten l.next (l.at_row * l.columns);
   short : AreShort l.next;
 }

@@ -1,23 +1,13 @@
-use Rattle.std.proofs.Common.{sym, ap, subst, subst₂, ◌∙◌, arith, ◌≡◌, ◌≢◌, ◌<◌, ◌+◌, ◌*◌, length, get_or, pos, to_z, of_z, w64}
+use Rattle.std.proofs.Common.{sym, ap, subst, subst₂, ◌∙◌, arith, ◌≡◌, ◌≢◌, ◌<ℤ◌, ◌+◌, ◌*◌, length, get_or, pos, to_z, of_z, w64}
+use mathlib.Core.Path.{subst₃}
 use Rattle.std.proofs.lemmas.Int.{ints}
-use Rattle.std.proofs.lemmas.List.{with_items_is, get_or_default}
+use Rattle.std.proofs.lemmas.List.{with_items_is}
 use Rattle.frac128.specs.Rational.{int}
-use Rattle.table_entries.specs.WholeSteps.{IsShort, AreShort, AreWithin, magnitude, whole_number_at, AreWritten}
+use Rattle.table_entries.specs.WholeSteps.{AreShort, AreWithin, magnitude, whole_number_at, AreWritten}
 use Rattle.table_entries.specs.Listed.{over, AreOver}
-use Rattle.table_entries.proofs.ReadLemmas.{short_read, short_again, short_as, positive_again}
-use Rattle.table_entries.proofs.ListedLemmas.{listed_numbers, whole_form, whole_list, whole_numbers, whole_size, not_zero_number, over_after, parts_exchanged}
+use Rattle.table_entries.proofs.ReadLemmas.{short_read, short_again, positive_again}
+use Rattle.table_entries.proofs.ListedLemmas.{listed_numbers, whole_form, whole_list, whole_numbers, whole_size, not_zero_number, parts_exchanged}
 use Rattle.table_entries.proofs.table_entries.TableEntries.exchange_each.Goals as goal
-
-pub index-pivot-requires : goal.index-pivot-requires
-index-pivot-requires c =
-    let self = c.self.inside in
-    let numbers = self.numbers.items in
-    let v = c.args.self.now in
-    let form = whole_form self.is_whole self.denominator numbers self.fractions.items v c.self.view_is c.requires.whole in
-    let size : length numbers ≡ c.args.rows * c.args.columns = whole_size self.is_whole self.denominator numbers self.fractions.items v c.self.view_is c.requires.whole ∙ c.requires.size in
-    let within : c.flat_index.result < length numbers = subst (λ n. c.flat_index.result < n) (sym size) c.flat_index.ensures.within in
-    let all = self.numbers.ok.0 in
-    omega (arith, within, all)
 
 pub write_wholes-requires-clause-size : goal.write_wholes-requires-clause-size
 write_wholes-requires-clause-size c =
@@ -98,21 +88,6 @@ are_within-requires-clause-short c =
     let kept = c.write_wholes.auto.next ∙ c.deref_mut.ensures.len in
     subst AreShort (sym (c.deref-2.ensures.value ∙ with_items_is self.spare_numbers c.write_wholes.new.next kept)) c.write_wholes.ensures.short
 
-pub abs-self-inside-requires : goal.abs-self-inside-requires
-abs-self-inside-requires c =
-    let self = c.self.inside in
-    let numbers = self.numbers.items in
-    let v = c.args.self.now in
-    let form = whole_form self.is_whole self.denominator numbers self.fractions.items v c.self.view_is c.requires.whole in
-    let are : AreOver self.denominator numbers = c.self.invariant.over_one form in
-    let size : length numbers ≡ c.args.rows * c.args.columns = whole_size self.is_whole self.denominator numbers self.fractions.items v c.self.view_is c.requires.whole ∙ c.requires.size in
-    let at = c.args.row * c.args.columns + c.args.place in
-    let within : c.flat_index.result < length numbers = subst (λ n. c.flat_index.result < n) (sym size) c.flat_index.ensures.within in
-    let pivot_is : c.index-pivot.result.now ≡ whole_number_at numbers at =
-    c.index-pivot.ensures ∙ get_or_default numbers c.flat_index.result c.index-pivot.result.now (pos 0) within ∙ ap (whole_number_at numbers) c.flat_index.ensures.value in
-    let short : IsShort (whole_number_at numbers at) = are.short at (subst (λ k. k < length numbers) c.flat_index.ensures.value within) in
-    omega (arith, ints, pivot_is, short)
-
 pub invariant_of-self : goal.invariant_of-self
 invariant_of-self c =
     let self = c.self.inside in
@@ -152,67 +127,52 @@ invariant_of-self-2 c =
     let v = c.args.self.now in
     let form = whole_form self.is_whole self.denominator numbers self.fractions.items v c.self.view_is c.requires.whole in
     let are : AreOver self.denominator numbers = c.self.invariant.over_one form in
-    let size : length numbers ≡ c.args.rows * c.args.columns = whole_size self.is_whole self.denominator numbers self.fractions.items v c.self.view_is c.requires.whole ∙ c.requires.size in
     let shape = c.self.invariant in
-    let at = c.args.row * c.args.columns + c.args.place in
-    let within : c.flat_index.result < length numbers = subst (λ n. c.flat_index.result < n) (sym size) c.flat_index.ensures.within in
-    let pivot_is : c.index-pivot.result.now ≡ whole_number_at numbers at =
-    c.index-pivot.ensures ∙ get_or_default numbers c.flat_index.result c.index-pivot.result.now (pos 0) within ∙ ap (whole_number_at numbers) c.flat_index.ensures.value in
-    let short : IsShort (whole_number_at numbers at) = are.short at (subst (λ k. k < length numbers) c.flat_index.ensures.value within) in
-    let read = short_as c.index-pivot.result.now (whole_number_at numbers at) pivot_is short in
-    let abs_is : c.abs-self-inside.result ≡ magnitude (whole_number_at numbers at) = c.abs-self-inside.ensures.value ∙ ap magnitude read in
-    let denominator_is = short_as c.abs-self-inside.result (magnitude (whole_number_at numbers at)) abs_is short in
-    let d_is = short_read self.denominator are.denominator_short in
-    let list_is = whole_list self.is_whole self.denominator numbers self.fractions.items v c.self.view_is c.requires.whole in
-    let some : whole_number_at numbers at ≢ pos 0 = not_zero_number self.denominator numbers are.positive at (subst (λ xs. get_or xs at (int (pos 0)) ≢ int (pos 0)) list_is c.requires.some) in
+    let after_is = short_read c.args.after c.requires.after in
     let next = c.write_wholes.new.next in
     let kept : length next ≡ self.spare_numbers.len = c.write_wholes.auto.next ∙ c.deref_mut.ensures.len in
     let new_is : c.swap.new.x.items ≡ next = ap (λ v. v.items) c.swap.ensures.x_after ∙ with_items_is self.spare_numbers next kept in
     let next_size : length next ≡ length self.fractions.items = c.write_wholes.auto.next ∙ ap length c.deref_mut.ensures.value ∙ shape.spare_numbers_length form in
-    let next_full : length next ≡ c.args.rows * c.args.columns = next_size ∙ sym (shape.numbers_length form) ∙ size in
-    let written : AreWritten c.args.columns c.args.row c.args.place self.denominator numbers c.args.unwritten.now next (c.args.rows * c.args.columns) =
-    subst₂ (λ d xs. AreWritten c.args.columns c.args.row c.args.place d xs c.args.unwritten.now next (c.args.rows * c.args.columns)) d_is c.deref.ensures.value (c.write_wholes.ensures.written c.if-not-write_wholes.false) in
     record {
       spare_length = shape.spare_length;
       spare_room = shape.spare_room;
       numbers_length = λ e. ap length new_is ∙ next_size;
       spare_numbers_length = λ e. ap (λ v. length v.items) c.swap.ensures.y_after ∙ shape.numbers_length form;
-      over_one = λ e. subst₂ AreOver (sym denominator_is) (sym new_is)
-          (over_after c.args.rows c.args.columns c.args.row c.args.place c.requires.row c.requires.place self.denominator numbers c.args.unwritten.now next are size next_full some c.write_wholes.ensures.short written);
+      over_one = λ e. subst₂ AreOver (sym after_is) (sym new_is) (record { positive = c.requires.after_positive; denominator_short = c.requires.after; short = c.write_wholes.ensures.short });
       spare_short = λ e. subst AreShort (sym (ap (λ v. v.items) c.swap.ensures.y_after)) are.short;
     }
 
 pub returns-clause-done : goal.returns-clause-done
 returns-clause-done c = λ t.
     let self = c.self.inside in
+    let a = c.args in
     let numbers = self.numbers.items in
-    let v = c.args.self.now in
+    let v = a.self.now in
     let form = whole_form self.is_whole self.denominator numbers self.fractions.items v c.self.view_is c.requires.whole in
     let are : AreOver self.denominator numbers = c.self.invariant.over_one form in
-    let size : length numbers ≡ c.args.rows * c.args.columns = whole_size self.is_whole self.denominator numbers self.fractions.items v c.self.view_is c.requires.whole ∙ c.requires.size in
+    let size : length numbers ≡ a.rows * a.columns = whole_size self.is_whole self.denominator numbers self.fractions.items v c.self.view_is c.requires.whole ∙ c.requires.size in
     let shape = c.self.invariant in
-    let at = c.args.row * c.args.columns + c.args.place in
-    let within : c.flat_index.result < length numbers = subst (λ n. c.flat_index.result < n) (sym size) c.flat_index.ensures.within in
-    let pivot_is : c.index-pivot.result.now ≡ whole_number_at numbers at =
-    c.index-pivot.ensures ∙ get_or_default numbers c.flat_index.result c.index-pivot.result.now (pos 0) within ∙ ap (whole_number_at numbers) c.flat_index.ensures.value in
-    let short : IsShort (whole_number_at numbers at) = are.short at (subst (λ k. k < length numbers) c.flat_index.ensures.value within) in
-    let read = short_as c.index-pivot.result.now (whole_number_at numbers at) pivot_is short in
-    let abs_is : c.abs-self-inside.result ≡ magnitude (whole_number_at numbers at) = c.abs-self-inside.ensures.value ∙ ap magnitude read in
-    let denominator_is = short_as c.abs-self-inside.result (magnitude (whole_number_at numbers at)) abs_is short in
     let d_is = short_read self.denominator are.denominator_short in
+    let after_is = short_read a.after c.requires.after in
     let list_is = whole_list self.is_whole self.denominator numbers self.fractions.items v c.self.view_is c.requires.whole in
-    let some : whole_number_at numbers at ≢ pos 0 = not_zero_number self.denominator numbers are.positive at (subst (λ xs. get_or xs at (int (pos 0)) ≢ int (pos 0)) list_is c.requires.some) in
     let next = c.write_wholes.new.next in
     let kept : length next ≡ self.spare_numbers.len = c.write_wholes.auto.next ∙ c.deref_mut.ensures.len in
     let new_is : c.swap.new.x.items ≡ next = ap (λ v. v.items) c.swap.ensures.x_after ∙ with_items_is self.spare_numbers next kept in
     let next_size : length next ≡ length self.fractions.items = c.write_wholes.auto.next ∙ ap length c.deref_mut.ensures.value ∙ shape.spare_numbers_length form in
-    let next_full : length next ≡ c.args.rows * c.args.columns = next_size ∙ sym (shape.numbers_length form) ∙ size in
-    let written : AreWritten c.args.columns c.args.row c.args.place self.denominator numbers c.args.unwritten.now next (c.args.rows * c.args.columns) =
-    subst₂ (λ d xs. AreWritten c.args.columns c.args.row c.args.place d xs c.args.unwritten.now next (c.args.rows * c.args.columns)) d_is c.deref.ensures.value (c.write_wholes.ensures.written c.if-not-write_wholes.false) in
-    let limit_is : to_z w64 (of_z w64 c.args.limit) ≡ c.args.limit = let range = c.ranges.limit in omega (arith, ints, range) in
-    let within : AreWithin c.args.rows c.args.columns c.args.unwritten.now c.args.limit next =
-    subst₂ (AreWithin c.args.rows c.args.columns c.args.unwritten.now) limit_is (c.deref-2.ensures.value ∙ with_items_is self.spare_numbers next kept) (c.are_within.ensures c.if-not-are_within.false) in
-    parts_exchanged c.args.rows c.args.columns c.args.row c.args.place c.requires.row c.requires.place self.denominator numbers c.args.unwritten.now next are size next_full some c.write_wholes.ensures.short written
-    c.args.limit v _ list_is (whole_numbers self.is_whole self.denominator numbers self.fractions.items v c.self.view_is c.requires.whole) form
-    (listed_numbers self.is_whole (to_z w64 (of_z w64 c.abs-self-inside.result)) c.swap.new.x.items self.fractions.items form ∙ (λ j. over (denominator_is j) (new_is j)))
-    denominator_is new_is within
+    let next_full : length next ≡ a.rows * a.columns = next_size ∙ sym (shape.numbers_length form) ∙ size in
+    let written : AreWritten a.columns a.row a.place self.denominator a.after numbers a.unwritten.now next (a.rows * a.columns) =
+    subst₃ (λ d g xs. AreWritten a.columns a.row a.place d g xs a.unwritten.now next (a.rows * a.columns)) d_is after_is c.deref.ensures.value (c.write_wholes.ensures.written c.if-not-write_wholes.false) in
+    let limit_is : to_z w64 (of_z w64 a.limit) ≡ a.limit = let range = c.ranges.limit in omega (arith, ints, range) in
+    let slim : magnitude a.after <ℤ a.limit = subst₂ (λ x l. magnitude x <ℤ l) after_is limit_is (c.is_below.ensures c.if-not-is_below.false) in
+    let within : AreWithin a.rows a.columns a.unwritten.now a.limit next =
+    subst₂ (AreWithin a.rows a.columns a.unwritten.now) limit_is (c.deref-2.ensures.value ∙ with_items_is self.spare_numbers next kept) (c.are_within.ensures c.if-not-are_within.false) in
+    parts_exchanged a.rows a.columns a.row a.place c.requires.row c.requires.place self.denominator a.after numbers a.unwritten.now next are size next_full c.requires.after_positive c.requires.after c.write_wholes.ensures.short written
+    a.limit v _ list_is (whole_numbers self.is_whole self.denominator numbers self.fractions.items v c.self.view_is c.requires.whole) form
+    (listed_numbers self.is_whole (to_z w64 (of_z w64 a.after)) c.swap.new.x.items self.fractions.items form ∙ (λ j. over (after_is j) (new_is j)))
+    after_is new_is slim within
+
+pub write_wholes-requires-clause-after_positive : goal.write_wholes-requires-clause-after_positive
+write_wholes-requires-clause-after_positive c = positive_again c.args.after c.requires.after c.requires.after_positive
+
+pub write_wholes-requires-clause-after : goal.write_wholes-requires-clause-after
+write_wholes-requires-clause-after c = short_again c.args.after c.requires.after

@@ -1,4 +1,4 @@
-use Rattle.std.proofs.Common.{sym, ap, subst, subst₂, ◌∙◌, arith, ◌≡◌, ◌≢◌, ◌<◌, ◌+◌, ◌*◌, length, get_or, pos, to_z, of_z, w64, ℕ, true, false}
+use Rattle.std.proofs.Common.{refl, sym, ap, subst, subst₂, ◌∙◌, arith, ◌≡◌, ◌≢◌, ◌<◌, ◌<ℤ◌, ◌+◌, ◌*◌, length, get_or, pos, to_z, of_z, w64, ℕ, true, false}
 use Rattle.std.proofs.lemmas.Int.{ints}
 use Rattle.std.proofs.lemmas.List.{with_items_is}
 use Rattle.frac128.specs.Rational.{int}
@@ -191,7 +191,6 @@ returns-clause-done c = λ t.
     let list_is = whole_list self.is_whole self.denominator numbers self.fractions.items v view_is c.requires.whole in
     let numbers_are = whole_numbers self.is_whole self.denominator numbers self.fractions.items v view_is c.requires.whole in
     let some : whole_number_at numbers at ≢ pos 0 = not_zero_number self.denominator numbers are.positive at (subst (λ xs. get_or xs at (int (pos 0)) ≢ int (pos 0)) list_is c.requires.some) in
-    let stays : magnitude (whole_number_at numbers at) ≡ self.denominator = ap (λ xs. magnitude (whole_number_at xs at)) (sym numbers_are) ∙ c.requires.stays ∙ sym (ap (λ w. w.denominator) view_is) in
     let marks = c.mark_left.new.left in
     let next = c.write_wholes.new.next in
     let new = c.take_rows.new.numbers in
@@ -199,8 +198,8 @@ returns-clause-done c = λ t.
     let new_is = with_items_is self.numbers new (c.take_rows.auto.numbers ∙ c.deref_mut-2.ensures.len) in
     let new_size : length new ≡ a.rows * a.columns = c.take_rows.auto.numbers ∙ ap length c.deref_mut-2.ensures.value ∙ size in
     let left : AreLeft a.rows a.columns a.row a.place numbers a.unwritten.now marks = subst (λ xs. AreLeft a.rows a.columns a.row a.place xs a.unwritten.now marks) c.deref.ensures.value c.mark_left.ensures in
-    let written : AreWritten a.columns a.row a.place self.denominator numbers marks next (a.rows * a.columns) =
-    subst₂ (λ d xs. AreWritten a.columns a.row a.place d xs marks next (a.rows * a.columns)) d_is c.deref-2.ensures.value (c.write_wholes.ensures.written c.if-not-write_wholes.false) in
+    let written : AreWritten a.columns a.row a.place self.denominator self.denominator numbers marks next (a.rows * a.columns) =
+    subst₂ (λ d xs. AreWritten a.columns a.row a.place d d xs marks next (a.rows * a.columns)) d_is c.deref-2.ensures.value (c.write_wholes.ensures.written c.if-not-write_wholes.false) in
     let taken : (i k : ℕ) → i < a.rows → k < a.columns → is_unwritten marks i ≡ false → whole_number_at new (i * a.columns + k) ≡ whole_number_at next (i * a.columns + k) =
     (λ i k p q e. c.take_rows.ensures.taken i k p q e ∙ ap (λ xs. whole_number_at xs (i * a.columns + k)) (c.deref-4.ensures.value ∙ next_is)) in
     let kept : (i k : ℕ) → i < a.rows → k < a.columns → is_unwritten marks i ≡ true → whole_number_at new (i * a.columns + k) ≡ whole_number_at numbers (i * a.columns + k) =
@@ -209,9 +208,27 @@ returns-clause-done c = λ t.
     let after : AreWithin a.rows a.columns marks a.limit next =
     subst₂ (AreWithin a.rows a.columns marks) limit_is (c.deref-3.ensures.value ∙ next_is) (c.are_within.ensures c.if-not-are_within.false) in
     let before : AreWithin a.rows a.columns a.unwritten.now a.limit numbers = subst (AreWithin a.rows a.columns a.unwritten.now a.limit) numbers_are c.requires.within in
-    parts_exchanged a.rows a.columns a.row a.place c.requires.row c.requires.place self.denominator numbers a.unwritten.now new are size new_size some c.take_rows.ensures.short
-    (left_written a.rows a.columns a.row a.place self.denominator numbers a.unwritten.now marks next new c.requires.row c.requires.place size are.short are.positive are.denominator_short some stays left written taken kept)
+    let slim : magnitude self.denominator <ℤ a.limit = subst₂ (λ x l. magnitude x <ℤ l) d_is limit_is (c.is_below.ensures c.if-not-is_below.false) in
+    parts_exchanged a.rows a.columns a.row a.place c.requires.row c.requires.place self.denominator self.denominator numbers a.unwritten.now new are size new_size are.positive are.denominator_short c.take_rows.ensures.short
+    (left_written a.rows a.columns a.row a.place self.denominator numbers a.unwritten.now marks next new c.requires.row c.requires.place size are.short are.positive are.denominator_short some left written taken kept)
     a.limit v _ list_is numbers_are form
-    (listed_numbers self.is_whole self.denominator _ self.fractions.items form ∙ (λ j. over (sym stays j) (new_is j)))
-    (sym stays) new_is
-    (left_within a.rows a.columns a.row a.place self.denominator numbers a.unwritten.now marks next new c.requires.row c.requires.place size are.short are.positive are.denominator_short some stays left written taken kept a.limit before after)
+    (listed_numbers self.is_whole self.denominator _ self.fractions.items form ∙ (λ j. over self.denominator (new_is j)))
+    refl new_is slim
+    (left_within a.rows a.columns a.row a.place self.denominator numbers a.unwritten.now marks next new c.requires.row c.requires.place size are.short are.positive are.denominator_short some left written taken kept a.limit before after)
+
+pub write_wholes-requires-clause-after_positive : goal.write_wholes-requires-clause-after_positive
+write_wholes-requires-clause-after_positive c =
+    let self = c.self.inside in
+    let numbers = self.numbers.items in
+    let v = c.args.self.now in
+    let form = whole_form self.is_whole self.denominator numbers self.fractions.items v c.self.view_is c.requires.whole in
+    let are = c.self.invariant.over_one form in
+    positive_again self.denominator are.denominator_short are.positive
+
+pub write_wholes-requires-clause-after : goal.write_wholes-requires-clause-after
+write_wholes-requires-clause-after c =
+    let self = c.self.inside in
+    let numbers = self.numbers.items in
+    let v = c.args.self.now in
+    let form = whole_form self.is_whole self.denominator numbers self.fractions.items v c.self.view_is c.requires.whole in
+    short_again self.denominator (c.self.invariant.over_one form).denominator_short
