@@ -38,7 +38,7 @@ pub struct WholeLeaf<'a> {
 
 /// The number at a place, if there is one.
 #[inline]
-fn weight_at(numbers: &[i64], place: usize) -> Option<i64>
+pub(crate) fn weight_at(numbers: &[i64], place: usize) -> Option<i64>
     ensures within { IfSome result (λ n. place < length numbers.now) }
     ensures value { IfSome result (λ n. n ≡ whole_number_at numbers.now place) }
 {
@@ -70,7 +70,7 @@ fn next_at(next: &[usize], known: usize, place: usize) -> usize
 
 /// The side that a number over any denominator takes of two.
 #[inline]
-fn whole_side(weight: i64, lo: &Bound, hi: &Bound) -> Bound
+pub(crate) fn whole_side(weight: i64, lo: &Bound, hi: &Bound) -> Bound
     ensures { (d : ℤ) → pos 0 <ℤ d → result ≡ needed_side (quotient_of weight d) lo.now hi.now }
 {
     if weight > 0 {
@@ -341,7 +341,7 @@ impl WholeLeaf<'_> {
     }
 
     /// What is left of a column's cost, over the denominator, where it can be had in whole numbers. None says nothing.
-    fn cost_left(&self, col: usize) -> Option<i64>
+    pub(crate) fn cost_left(&self, col: usize) -> Option<i64>
         requires whole { IsWholeLeaf self.now }
         requires within { col < length self.now.leaf.model.now.cols }
         ensures short { IfSome result (λ n. IsShort n) }
@@ -358,7 +358,7 @@ impl WholeLeaf<'_> {
 
     /// The bound of a column that what is left of its cost takes. One bound alone is asked of the region, and none where nothing
     /// is left.
-    fn column_side(&self, reduced: i64, col: usize) -> Bound
+    pub(crate) fn column_side(&self, reduced: i64, col: usize) -> Bound
         requires within { col < length self.now.leaf.model.now.cols }
         requires narrow { AreNarrow self.now.leaf.region.now }
         ensures { (d : ℤ) → pos 0 <ℤ d → result ≡ needed_side (quotient_of reduced d) (region_low self.now.leaf.model.now self.now.leaf.region.now col) (region_high self.now.leaf.model.now self.now.leaf.region.now col) }

@@ -4,5 +4,11 @@ pub mod QueueLists
 pub mod NumberLemmas
 pub mod MarkLemmas
 pub mod SameNumber
-pub mod FormerNumbers
+pub mod EntryLemmas
+pub mod LikeEntries
+pub mod SameEntry
+pub mod SparedEntry
+pub mod WayLemmas
+pub mod WalkedLemmas
+pub mod DueLemmas
 pub mod FreeLemmas

@@ -1,6 +1,7 @@
 -- A walk that judges leaves by the numbers that are kept of them.
 use Rattle.std.specs.Prelude.{◌≡◌, ◌+◌, List, [], ◌∷◌, ◌++◌, length, All, Option, Some}
 use Rattle.std.specs.List.{AllZip}
+use Rattle.std.specs.Option.{option_map}
 use Rattle.std.proofs.Common.{refl, sym, subst, ap, arith, append_assoc, length-append}
 use Rattle.std.proofs.lemmas.List.{append-nil}
 use Rattle.std.proofs.lemmas.List.Elements.{All-map, All-head, All-tail}
@@ -13,6 +14,7 @@ use Rattle.branch_tree.specs.Visits.{Visits}
 use Rattle.branch_tree.specs.declared.node.LeafState.{LeafState}
 use Rattle.branch_tree.specs.declared.node.RegionLeaf.{RegionLeaf}
 use Rattle.branch_tree.proofs.TreeLemmas.{each_leaf-leaves}
+use Rattle.leaf_judging.specs.declared.entry.LeafEntry.{LeafEntry}
 use Rattle.leaf_judging.specs.declared.numbers.LeafNumbers.{LeafNumbers}
 use Rattle.leaf_judging.specs.declared.judging.Against.{Against}
 use Rattle.leaf_judging.specs.declared.judging.Marking.{Marking}
@@ -42,8 +44,9 @@ module _ (F : Formulation) (t : Option ℚ) (numbers : LeafNumbers) where
   marked-one : (done : List RegionLeaf) (l : RegionLeaf) (old new : Marking) → IsKept l → AreMarked done old → MarksLeaf old l new → AreMarked (done ++ l ∷ []) new
   marked-one done l old new kept marks step =
       let against = marks.0 in
-      let same : step.number ≡ kept.0 = step.number_is kept.0 (subst (λ (m : LeafNumbers). kept_number m l.id ≡ Some kept.0) (sym against.1.1) kept.1.0) in
-      let is : IsNumber F l.region l.kept.mult l.kept.farkas step.number = subst (IsNumber F l.region l.kept.mult l.kept.farkas) (sym same) kept.1.1 in
+      let own : kept_number numbers l.id ≡ Some kept.0.number = ap (option_map (λ (e : LeafEntry). e.number)) kept.1.0 in
+      let same : step.number ≡ kept.0.number = step.number_is kept.0.number (subst (λ (m : LeafNumbers). kept_number m l.id ≡ Some kept.0.number) (sym against.1.1) own) in
+      let is : IsNumber F l.region l.kept.mult l.kept.farkas step.number = subst (IsNumber F l.region l.kept.mult l.kept.farkas) (sym same) kept.1.1.number in
       let says : StateSays step.state (NumberCloses F.model t step.number) = subst (λ P. P) (λ i. StateSays step.state (NumberCloses (against.0 i) (against.1.0 i) step.number)) step.says in
       let child = child-candidate F l.region l.id (leaf_in step.state l).kept (finite_number step.number) (step.number, (is, refl)) (candidate_of step.state (finite_number step.number) l.id) refl in (
         subst IsAgainst (sym step.same) against,

@@ -1,16 +1,15 @@
 -- Numbers of leaves from before an edit of the model, and which leaves keep them.
-use Rattle.std.specs.Prelude.{◌≡◌, Option, Some, None, IfSome}
+use Rattle.std.specs.Prelude.{ℕ, List, [], Option, Some, None, IfSome}
 use Rattle.lp_model.specs.Regions.{Path}
 use Rattle.lp_model.specs.Formulations.{Formulation, formulation}
 use Rattle.branch_tree.specs.Plain.{LeafKept, Plain}
+use Rattle.branch_tree.specs.declared.node.LeafData.{LeafData}
 use Rattle.branch_tree.specs.declared.node.RegionLeaf.{RegionLeaf}
 use Rattle.spared_leaves.specs.declared.touched.Touched.{Touched}
 use Rattle.spared_leaves.specs.Alike.{AreAlikeBut, AreAlikeCuts}
 use Rattle.leaf_judging.specs.declared.former.Former.{Former}
-use Rattle.leaf_judging.specs.declared.closing.LeafNumber.{LeafNumber}
-use Rattle.leaf_judging.specs.declared.judging.Numbering.{Numbering}
-use Rattle.leaf_judging.specs.Closing.{IsNumber}
-use Rattle.leaf_judging.specs.Numbers.{PutsNumber, HasKept, AreNumbersOf}
+use Rattle.leaf_judging.specs.Totals.{leaf_steps, leaves_steps}
+use Rattle.leaf_judging.specs.Numbers.{HasKept, AreNumbersOf}
 
 -- the formulation whose numbers are kept
 abbrev pub former_formulation : Former → Formulation
@@ -31,14 +30,13 @@ abbrev pub AreFormer : Option Former → Formulation → Plain → Type 0
 AreFormer None F tree = Unit {0}
 AreFormer (Some former) F tree = IfSome former.touched (λ t. IsAlikeFormer t former F × AreNumbersOf (former_formulation former) tree former.numbers.now)
 
--- ---- one leaf of a walk
+-- ---- steps
 
--- its number is put down, where the former one, if there are any, is what the leaf had
-pub record NumbersLeaf (old : Numbering) (l : RegionLeaf) (new : Numbering) : Type 0 where
-  pub same : new.model.now ≡ old.model.now
-  pub same_cuts : new.pool.now ≡ old.pool.now
-  pub same_former : new.former ≡ old.former
-  pub number : LeafNumber
-  pub number_is : HoldsFormer old.former (formulation old.model.now old.pool.now) l.region (record { id = l.id; kept = l.kept })
-      → IsNumber (formulation old.model.now old.pool.now) l.region l.kept.mult l.kept.farkas number
-  pub puts : PutsNumber old.numbers l.id number new.numbers
+-- how many terms may be added in a leaf, and in these leaves
+abbrev pub former_leaf_steps : Option Former → Formulation → LeafData → ℕ
+former_leaf_steps None F kept = leaf_steps None [] F kept
+former_leaf_steps (Some former) F kept = leaf_steps former.touched former.pool.now F kept
+
+abbrev pub former_steps : Option Former → Formulation → List RegionLeaf → ℕ
+former_steps None F leaves = leaves_steps None [] F leaves
+former_steps (Some former) F leaves = leaves_steps former.touched former.pool.now F leaves

@@ -1,3 +1,6 @@
 -- What contracts of private functions alone cite: no caller has to read it.
+pub mod Entries
 pub mod Numbers
 pub mod Queued
+pub mod Walked
+pub mod Ways

@@ -1,24 +1,17 @@
-// Numbers of leaves from before an edit of the model, which those leaves keep that the edit spares.
-ghost use Rattle.std.specs.Prelude.{IsTrue, IfSome};
-ghost use Rattle.std.specs.Option.{IsSomeAnd};
-ghost use Rattle.lp_model.specs.Regions.{Path, AreNarrow};
+// Entries of leaves from before an edit of the model, and what of them stands after it.
+ghost use Rattle.std.specs.Prelude.{◌↔◌, ◌<◌, ◌≡◌, IsTrue, length};
+ghost use Rattle.lp_model.specs.Regions.{AreNarrow};
 ghost use Rattle.lp_model.specs.Formulations.{formulation};
-ghost use Rattle.tight_regions.specs.SameBounds.{SameBounds};
-ghost use Rattle.spared_leaves.specs.Alike.{AreAlikeBut, AreAlikeCuts};
-ghost use Rattle.spared_leaves.specs.Spared.{IsSpared};
-ghost use Rattle.leaf_judging.specs.Former.{HoldsFormer};
-ghost use Rattle.leaf_judging.specs.Closing.{IsNumber};
+ghost use Rattle.leaf_judging.specs.private.Ways.{KeepsBlocks, IsWayBy, IsWayAfter};
 
-use crate::closing::LeafNumber;
 use crate::numbers::LeafNumbers;
 use branch_tree::LeafData;
 use cover_cuts::CutPool;
-use leaf_dual::LagValue;
 use lp_model::{BoundChange, Model};
 use spared_leaves::{Change, Posed, Touched};
 
 /// The numbers that were kept of a tree's leaves before an edit of the model, the model and the cuts of then, and what the edit
-/// touched, where that was so little that some leaves may keep their numbers.
+/// touched, where that was so little that some leaves may keep what is kept of them.
 #[derive(Clone, Copy, Drop)]
 pub struct Former<'a> {
     pub touched: Option<Touched>,
@@ -27,11 +20,45 @@ pub struct Former<'a> {
     pub numbers: &'a LeafNumbers,
 }
 
+/// What of a leaf's entry stands after an edit.
+#[derive(Clone, Copy, Drop)]
+pub(crate) enum Way {
+    /// All of it.
+    Spared,
+    /// All but its number, and the totals of its multipliers from this column on.
+    FromCost(usize),
+    /// Nothing that is known.
+    Anew,
+}
+
 impl Former<'_> {
-    /// Whether the edit is seen to leave a leaf's number.
-    fn spares(&self, model: &Model, pool: &CutPool, region: &[BoundChange], kept: &LeafData) -> bool
+    /// Whether a model has no column less, and no further block of 64.
+    fn keeps_blocks(&self, model: &Model) -> bool
+        ensures { IsTrue result ↔ KeepsBlocks self.now.model.now model.now }
+    {
+        let before = self.model.cols().len();
+        let after = model.cols().len();
+        before <= after && before / 64 == after / 64
+    }
+
+    /// Whether there is the column, and a model has as many.
+    fn has_column(&self, model: &Model, col: usize) -> bool
+        ensures { IsTrue result ↔ (col < length self.now.model.now.cols) × (length self.now.model.now.cols ≡ length model.now.cols) }
+    {
+        col < self.model.cols().len() && self.model.cols().len() == model.cols().len()
+    }
+
+    /// What stands of a leaf's entry after an edit that touched so much.
+    fn way_by(
+        &self,
+        touched: &Touched,
+        model: &Model,
+        pool: &CutPool,
+        region: &[BoundChange],
+        kept: &LeafData,
+    ) -> Way
         requires { AreNarrow region.now }
-        ensures { IsTrue result → IsSomeAnd self.now.touched (λ t. AreAlikeBut t self.now.model.now model.now → AreAlikeCuts self.now.pool.now pool.now → IsSpared (formulation self.now.model.now self.now.pool.now) (formulation model.now pool.now) region.now kept.now.mult kept.now.farkas) }
+        ensures { IsWayBy touched.now self.now (formulation model.now pool.now) region.now kept.now result }
     {
         let change = Change {
             before: Posed {
@@ -43,41 +70,46 @@ impl Former<'_> {
                 cuts: pool.rows(),
             },
         };
-        match &self.touched {
-            None => false,
-            Some(touched) => {
-                change.spares(
-                    touched,
-                    region,
-                    kept.mult.as_slice(),
-                    kept.farkas.as_slice(),
-                )
+        let mult = kept.mult.as_slice();
+        let farkas = kept.farkas.as_slice();
+        if change.spares(touched, region, mult, farkas) {
+            if self.keeps_blocks(model) {
+                return Way::Spared;
             }
+            return Way::Anew;
+        }
+        if !change.leaves_lists(touched, mult, farkas) {
+            return Way::Anew;
+        }
+        match touched {
+            Touched::Nothing => Way::Anew,
+            Touched::OneRow(_) => Way::Anew,
+            Touched::OneCost(col) => {
+                let place = col.0 as usize;
+                if self.has_column(model, place) {
+                    Way::FromCost(place)
+                } else {
+                    Way::Anew
+                }
+            }
+            Touched::OneColumn(_) => Way::Anew,
         }
     }
-}
 
-/// The number of the leaf with the id from before an edit, where the edit spares it: it is the leaf's number after it too.
-pub(crate) fn former_number(
-    former: &Option<Former<'_>>,
-    model: &Model,
-    pool: &CutPool,
-    id: u64,
-    region: &[BoundChange],
-    kept: &LeafData,
-) -> Option<LeafNumber>
-    requires { AreNarrow region.now }
-    ensures { IfSome result (λ n. (path : Path) → SameBounds region.now path → HoldsFormer former.now (formulation model.now pool.now) path (record { id = id; kept = kept.now }) → IsNumber (formulation model.now pool.now) path kept.now.mult kept.now.farkas n) }
-{
-    let _named = LagValue::Minus;
-    match former {
-        None => None,
-        Some(former) => {
-            if former.spares(model, pool, region, kept) {
-                former.numbers.get(id)
-            } else {
-                None
-            }
+    /// What stands of a leaf's entry after the edit.
+    pub(crate) fn way(
+        &self,
+        model: &Model,
+        pool: &CutPool,
+        region: &[BoundChange],
+        kept: &LeafData,
+    ) -> Way
+        requires { AreNarrow region.now }
+        ensures { IsWayAfter self.now (formulation model.now pool.now) region.now kept.now result }
+    {
+        match &self.touched {
+            None => Way::Anew,
+            Some(touched) => self.way_by(touched, model, pool, region, kept),
         }
     }
 }

@@ -1,112 +1,30 @@
 // Leaves judged, all of a tree: each leaf's number once, and its state by that number as often as the target changes.
-ghost use Rattle.std.specs.Prelude.{IfOk, OnOk, OnErr, ◌≡◌, List, length};
-ghost use Rattle.lp_model.specs.Regions.{Path, AreNarrow};
+ghost use Rattle.std.specs.Prelude.{IfOk, OnOk, OnErr, ◌≡◌, ◌≤◌, ◌+◌, ◌<◌, [], List, length};
 ghost use Rattle.lp_model.specs.Formulations.{formulation};
+ghost use Rattle.lp_model.specs.Regions.{Path};
 ghost use Rattle.lp_model.specs.declared.types.CutRow.{CutRow};
-ghost use Rattle.tight_regions.specs.SameBounds.{SameBounds};
 ghost use Rattle.branch_tree.specs.declared.node.LeafData.{LeafData};
 ghost use Rattle.branch_tree.specs.Tree.{HasNarrowSplits};
-ghost use Rattle.branch_tree.specs.Leaves.{leaf_count, with_states};
+ghost use Rattle.branch_tree.specs.Leaves.{leaf_count, with_states, region_leaves};
 ghost use Rattle.leaf_judging.specs.Judged.{AreStates, JudgesAll};
 ghost use Rattle.leaf_judging.specs.Queued.{IsQueueOf};
 ghost use Rattle.leaf_judging.specs.Numbers.{AreNumbersOf};
-ghost use Rattle.leaf_judging.specs.Former.{AreFormer};
+ghost use Rattle.leaf_judging.specs.Former.{AreFormer, former_steps};
 
 use crate::choosing::{Candidate, as_candidate, finite_number};
-use crate::closing::{LeafNumber, number_of, state_by};
-use crate::former::{Former, former_number};
+use crate::closing::state_by;
+use crate::former::Former;
+use crate::numbering::numbers_of;
 use crate::numbers::LeafNumbers;
 use crate::queue::LeafQueue;
 use branch_tree::{LeafData, LeafState, LeafVisitor, Tree};
 use cover_cuts::CutPool;
 use frac128::Frac;
-use leaf_dual::LagValue;
+use leaf_dual::Steps;
 use lp_model::{BoundChange, Model};
 use std::alloc::{AllocError, Global};
-
-/// Numbers of the leaves of a model with its cuts, put down one by one, with those from before an edit, if there are any.
-#[derive(Drop)]
-pub(crate) struct Numbering<'a> {
-    pub(crate) model: &'a Model,
-    pub(crate) pool: &'a CutPool,
-    pub(crate) former: Option<Former<'a>>,
-    pub(crate) numbers: LeafNumbers,
-}
-
-impl Numbering<'_> {
-    ghost use Rattle.lp_model.specs.Formulations.{formulation};
-    ghost use Rattle.leaf_judging.specs.Closing.{IsNumber};
-    ghost use Rattle.leaf_judging.specs.Former.{HoldsFormer, NumbersLeaf};
-
-    /// A leaf's number, which is that of each path with the region's bounds: the one from before an edit that spares the leaf,
-    /// and else computed.
-    fn number_at(&self, id: u64, region: &[BoundChange], kept: &LeafData) -> LeafNumber
-        requires { AreNarrow region.now }
-        ensures { (path : Path) → SameBounds region.now path → HoldsFormer self.now.former (formulation self.now.model.now self.now.pool.now) path (record { id = id; kept = kept.now }) → IsNumber (formulation self.now.model.now self.now.pool.now) path kept.now.mult kept.now.farkas result }
-    {
-        let _named = LagValue::Minus;
-        match former_number(&self.former, self.model, self.pool, id, region, kept) {
-            Some(number) => number,
-            None => number_of(self.model, self.pool, region, &kept.mult, &kept.farkas),
-        }
-    }
-
-    /// Puts down a leaf's number.
-    fn number_leaf(
-        &mut self,
-        id: u64,
-        region: &[BoundChange],
-        kept: &LeafData,
-    ) -> Result<(), AllocError>
-        requires { AreNarrow region.now }
-        ensures { OnOk result ((path : Path) → SameBounds region.now path → NumbersLeaf self.old (record { id = id; region = path; kept = kept.now }) self.new) }
-    {
-        let number = self.number_at(id, region, kept);
-        self.numbers.put(id, &number)
-    }
-}
-
-impl LeafVisitor for Numbering<'_> {
-    ghost use Rattle.leaf_judging.specs.Former.{NumbersLeaf};
-
-    ghost step = { NumbersLeaf };
-
-    fn visit(
-        &mut self,
-        id: u64,
-        region: &[BoundChange],
-        kept: &LeafData,
-    ) -> Result<(), AllocError> {
-        self.number_leaf(id, region, kept)
-    }
-}
-
-/// The number of each leaf of a tree. Those that an edit spares keep their former ones.
-fn numbers_of(
-    alloc: Global,
-    model: &Model,
-    pool: &CutPool,
-    former: &Option<Former<'_>>,
-    tree: &Tree,
-) -> Result<LeafNumbers, AllocError>
-    requires narrow { HasNarrowSplits tree.now.root }
-    requires former { AreFormer former.now (formulation model.now pool.now) tree.now.root }
-    ensures { IfOk result (λ numbers. AreNumbersOf (formulation model.now pool.now) tree.now.root numbers) }
-{
-    let mut numbering = Numbering {
-        model,
-        pool,
-        former: *former,
-        numbers: LeafNumbers::new(alloc),
-    };
-    match tree.visit_leaves(&mut numbering) {
-        Ok(()) => Ok(numbering.numbers),
-        Err(error) => {
-            drop(numbering);
-            Err(error)
-        }
-    }
-}
+use std::marker::Brand;
+use std::sync::ledger::{Blank, Ledger};
 
 /// What leaves are marked by: a model, the least value of the known points, if there are any, and the leaves' numbers.
 #[derive(Clone, Copy, Drop)]
@@ -230,14 +148,16 @@ pub struct Judged {
     pub index: LeafIndex,
 }
 
-/// The leaves of any tree that is handed in, judged against a target. Each number is computed once, where it is no former one.
-pub fn judge_tree(
+/// The leaves of any tree that is handed in, judged against a target. What a leaf had before an edit is gone on with, and each term
+/// that is added to a total is counted.
+pub fn judge_tree<L: Ledger>(
     alloc: Global,
     model: &Model,
     pool: &CutPool,
     target: &Option<Frac>,
     former: &Option<Former<'_>>,
     tree: &Tree,
+    steps: &mut Steps<L>,
 ) -> Result<Judged, AllocError>
     requires narrow { HasNarrowSplits tree.now.root }
     requires former { AreFormer former.now (formulation model.now pool.now) tree.now.root }
@@ -245,8 +165,12 @@ pub fn judge_tree(
     ensures states { IfOk result (λ j. AreStates (formulation model.now pool.now) target.now tree.now.root j.states.items) }
     ensures numbers { IfOk result (λ j. AreNumbersOf (formulation model.now pool.now) tree.now.root j.index.numbers) }
     ensures queue { IfOk result (λ j. IsQueueOf (formulation model.now pool.now) (with_states j.states.items tree.now.root) j.index.queue) }
+    ensures rises { OnOk result (steps.old ≤ steps.new) }
+    ensures steps { OnOk result (steps.new ≤ steps.old + former_steps former.now (formulation model.now pool.now) (region_leaves [] tree.now.root)) }
 {
-    let numbers = numbers_of(alloc, model, pool, former, tree)?;
+    let Ok(numbers) = numbers_of(alloc, model, pool, former, tree, steps) else {
+        return Err(AllocError);
+    };
     match judge_again(alloc, model, target, tree, &numbers) {
         Ok(marks) => Ok(Judged {
             states: marks.states,
@@ -264,7 +188,50 @@ pub fn judge_tree(
 
 /// Judges each leaf of a tree of which nothing is known, and answers what is kept of them. Where there is no memory the tree stays
 /// as it was.
-pub fn judge_all(
+pub fn judge_all<L: Ledger>(
+    alloc: Global,
+    model: &Model,
+    pool: &CutPool,
+    target: &Option<Frac>,
+    tree: &mut Tree,
+    steps: &mut Steps<L>,
+) -> Result<LeafIndex, AllocError>
+    requires { HasNarrowSplits tree.old.root }
+    ensures judged { OnOk result (JudgesAll (formulation model.now pool.now) target.now tree.old tree.new) }
+    ensures numbers { IfOk result (λ index. AreNumbersOf (formulation model.now pool.now) tree.new.root index.numbers) }
+    ensures queue { IfOk result (λ index. IsQueueOf (formulation model.now pool.now) tree.new.root index.queue) }
+    ensures kept { OnErr result (tree.new ≡ tree.old) }
+    ensures rises { OnOk result (steps.old ≤ steps.new) }
+{
+    let judged = judge_tree(alloc, model, pool, target, &None, tree, steps)?;
+    tree.set_states(&judged.states);
+    Ok(judged.index)
+}
+
+/// `judge_all` with the counter of a ledger that is opened here.
+fn judge_all_with<L: Ledger>(
+    alloc: Global,
+    model: &Model,
+    pool: &CutPool,
+    target: &Option<Frac>,
+    tree: &mut Tree,
+    blank: Blank,
+) -> Result<LeafIndex, AllocError>
+    requires narrow { HasNarrowSplits tree.old.root }
+    requires name { blank.name ≡ L.name }
+    requires parts { blank.parts ≡ L.parts }
+    requires some { 0 < L.parts }
+    ensures judged { OnOk result (JudgesAll (formulation model.now pool.now) target.now tree.old tree.new) }
+    ensures numbers { IfOk result (λ index. AreNumbersOf (formulation model.now pool.now) tree.new.root index.numbers) }
+    ensures queue { IfOk result (λ index. IsQueueOf (formulation model.now pool.now) tree.new.root index.queue) }
+    ensures kept { OnErr result (tree.new ≡ tree.old) }
+{
+    let mut steps: Steps<L> = Steps::new(blank);
+    judge_all(alloc, model, pool, target, tree, &mut steps)
+}
+
+/// `judge_all` with a counter that nobody looks at.
+pub fn judge_all_unseen(
     alloc: Global,
     model: &Model,
     pool: &CutPool,
@@ -277,7 +244,5 @@ pub fn judge_all(
     ensures queue { IfOk result (λ index. IsQueueOf (formulation model.now pool.now) tree.new.root index.queue) }
     ensures kept { OnErr result (tree.new ≡ tree.old) }
 {
-    let judged = judge_tree(alloc, model, pool, target, &None, tree)?;
-    tree.set_states(&judged.states);
-    Ok(judged.index)
+    judge_all_with::<Brand>(alloc, model, pool, target, tree, Blank::new(1))
 }

@@ -15,27 +15,33 @@
 //! Public contract: `judge_tree` answers the state of each leaf of a tree by which it is marked closed exactly where it
 //! closes, the number of each, and the queue of the open ones in the order in which they are worked: the least number first,
 //! a leaf without one before all, of equals the least id (specs/Closing, Judged, Choosing, Queued, Numbers). The tree may be
-//! any that is handed in, so that a caller can judge the tree after a change before it makes the change; after an edit of the model
-//! it may hand in the numbers from before (`Former`), and a leaf that the edit spares keeps its own. A number depends on
-//! the model, its cuts, the region and the multipliers alone, so it is kept under the leaf's id, and for another target `judge_again`
-//! compares the numbers that are kept, and computes none. A region counts by its bounds alone (proofs/SameNumber), so a leaf is
+//! any that is handed in, so that a caller can judge the tree after a change before it makes the change. A number depends on
+//! the model, its cuts, the region and the multipliers alone, so it is kept under the leaf's id, with the totals of both lists
+//! (`LeafEntry`, specs/Totals), and for another target `judge_again` compares the numbers that are kept, and computes none. After an edit
+//! of the model the entries from before may be handed in (`Former`): a leaf that the edit spares keeps its own, and after another cost
+//! one is gone on with from the last total before that column. A counter is ticked at each term that is added to a total, and how far it
+//! rises is bounded (`former_steps`). A region counts by its bounds alone (proofs/SameNumber), so a leaf is
 //! judged by the tightest changes of its path, however long that is. What is taken grows as the tree does.
 //!
-//! Below stand the trees (`branch_tree`), the numbers of multipliers (`leaf_dual`), the pools of cuts (`cover_cuts`) and the
+//! Below stand the trees (`branch_tree`), the numbers of multipliers (`leaf_dual`) with their totals (`leaf_totals`), the pools of cuts (`cover_cuts`) and the
 //! models (`lp_model`). Above stands
 //! the search, which keeps numbers and queue beside its tree.
 #![tactic(auto)]
 
 mod choosing;
 mod closing;
+mod due;
+mod entry;
 mod former;
 mod judging;
+mod numbering;
 mod numbers;
 mod queue;
 
 pub use choosing::{Candidate, as_candidate, finite_number};
 pub use closing::{LeafNumber, number_closes, number_of, state_by};
+pub use entry::{LeafEntry, entry_of};
 pub use former::Former;
-pub use judging::{Judged, LeafIndex, Marks, judge_again, judge_all, judge_tree};
+pub use judging::{Judged, LeafIndex, Marks, judge_again, judge_all, judge_all_unseen, judge_tree};
 pub use numbers::LeafNumbers;
 pub use queue::LeafQueue;

@@ -1,14 +1,16 @@
 // The numbers of leaves, by their ids.
 ghost use Rattle.std.specs.Prelude.{◌≡◌, ◌≢◌, IsSome, Some, None, OnOk, OnErr};
+ghost use Rattle.std.specs.Option.{option_copied};
 ghost use Rattle.std.specs.BTreeMap.{get, Updates, IsUnchanged};
 ghost use Rattle.std.specs.Ordering.{nat_cmp};
 ghost use Rattle.leaf_dual.specs.declared.dual.LagValue.TheVariants.{Minus};
 ghost use Rattle.leaf_judging.specs.declared.closing.LeafNumber.{LeafNumber};
 ghost use Rattle.leaf_judging.specs.declared.closing.LeafNumber.TheVariants.{Lag};
-ghost use Rattle.leaf_judging.specs.Numbers.{kept_number, PutsNumber, KeepsOtherNumbers, KeepsOtherTwo, HasBoth};
+ghost use Rattle.leaf_judging.specs.Numbers.{kept_entry, kept_number, PutsEntry, KeepsOtherNumbers, KeepsOtherTwo, HasBoth};
 ghost use Rattle.leaf_judging.specs.private.Numbers.{AreSameNumbers};
 
 use crate::closing::LeafNumber;
+use crate::entry::LeafEntry;
 use leaf_dual::LagValue;
 use std::alloc::{AllocError, Global};
 use std::collections::BTreeMap;
@@ -23,14 +25,14 @@ fn insert<V: Drop>(map: &mut BTreeMap<u64, V>, key: u64, value: V) -> Result<(),
     Ok(())
 }
 
-/// The numbers of leaves, each under the leaf's id, so that none is computed twice. A function that hands a number on by
-/// value names `LagValue`, without which its proof isn't told that type.
+/// The numbers of leaves, each under the leaf's id with the totals of its lists, so that none is computed twice. A function that
+/// hands a number on by value names `LagValue`, without which its proof isn't told that type.
 #[derive(Drop)]
 pub struct LeafNumbers {
-    kept: BTreeMap<u64, LeafNumber>,
+    kept: BTreeMap<u64, LeafEntry>,
 }
 
-#[tactic(auto, unfolding(crate::specs::Numbers::kept_number))]
+#[tactic(auto, unfolding(crate::specs::Numbers::kept_entry))]
 impl LeafNumbers {
     /// No number.
     pub(crate) fn new(alloc: Global) -> LeafNumbers {
@@ -39,12 +41,19 @@ impl LeafNumbers {
         }
     }
 
+    /// What is kept under the id.
+    pub(crate) fn entry(&self, id: u64) -> Option<&LeafEntry>
+        ensures { option_copied result ≡ kept_entry self.now id }
+    {
+        self.kept.get(&id)
+    }
+
     /// The number that is kept under the id.
     pub fn get(&self, id: u64) -> Option<LeafNumber>
         ensures { result ≡ kept_number self.now id }
     {
         match self.kept.get(&id) {
-            Some(number) => Some(*number),
+            Some(entry) => Some(entry.number),
             None => None,
         }
     }
@@ -55,26 +64,25 @@ impl LeafNumbers {
         ensures unknown { kept_number self.now id ≡ None → result ≡ Lag Minus }
     {
         match self.kept.get(&id) {
-            Some(number) => *number,
+            Some(entry) => entry.number,
             None => LeafNumber::Lag(LagValue::Minus),
         }
     }
 
-    /// Keeps a number under the id.
+    /// Keeps an entry under the id.
     ///
     /// # Errors
     ///
-    /// Only for want of memory: the numbers stay.
-    pub(crate) fn put(&mut self, id: u64, number: &LeafNumber) -> Result<(), AllocError>
-        ensures put { OnOk result (PutsNumber self.old id number.now self.new) }
+    /// Only for want of memory: the entries stay.
+    pub(crate) fn put(&mut self, id: u64, entry: LeafEntry) -> Result<(), AllocError>
+        ensures put { OnOk result (PutsEntry self.old id entry self.new) }
         ensures kept { OnErr result (AreSameNumbers self.old self.new) }
     {
-        let _named = LagValue::Minus;
-        insert(&mut self.kept, id, *number)?;
+        insert(&mut self.kept, id, entry)?;
         Ok(())
     }
 
-    /// Keeps the numbers of two ids.
+    /// Keeps the entries of two ids.
     ///
     /// # Errors
     ///
@@ -82,31 +90,34 @@ impl LeafNumbers {
     pub fn put_both(
         &mut self,
         first: u64,
-        left: &LeafNumber,
+        left: LeafEntry,
         second: u64,
-        right: &LeafNumber,
+        right: LeafEntry,
     ) -> Result<(), AllocError>
         requires { first ≢ second }
-        ensures put { OnOk result (HasBoth self.new first left.now second right.now) }
+        ensures put { OnOk result (HasBoth self.new first left second right) }
         ensures others { KeepsOtherTwo self.old first second self.new }
     {
-        self.put(first, left)?;
-        self.put(second, right)?;
-        Ok(())
+        match self.put(first, left) {
+            Ok(()) => self.put(second, right),
+            Err(error) => {
+                drop(right);
+                Err(error)
+            }
+        }
     }
 
-    /// Keeps another number under an id that has one, which takes no memory.
-    pub fn set(&mut self, id: u64, number: &LeafNumber)
-        requires { IsSome (kept_number self.old id) }
-        ensures { PutsNumber self.old id number.now self.new }
+    /// Keeps another entry under an id that has one, which takes no memory.
+    pub fn set(&mut self, id: u64, entry: LeafEntry)
+        requires { IsSome (kept_entry self.old id) }
+        ensures { PutsEntry self.old id entry self.new }
     {
-        let _named = LagValue::Minus;
-        let _ = insert(&mut self.kept, id, *number);
+        let _ = insert(&mut self.kept, id, entry);
     }
 
-    /// Keeps no number under the id.
+    /// Keeps no entry under the id.
     pub fn remove(&mut self, id: u64)
-        ensures gone { kept_number self.new id ≡ None }
+        ensures gone { kept_entry self.new id ≡ None }
         ensures others { KeepsOtherNumbers self.old id self.new }
     {
         let _ = self.kept.remove(&id);

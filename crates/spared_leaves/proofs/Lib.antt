@@ -1,5 +1,6 @@
 pub mod LikeTerms
 pub mod LikeQuestions
+pub mod LikeTotals
 pub mod LikeAnswers
 pub mod LikeEdits
 pub mod LikePools

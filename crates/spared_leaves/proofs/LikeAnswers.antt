@@ -1,9 +1,9 @@
 -- A list that names nothing that is touched has the same answers in models and cuts that are alike.
 -- Idea: the multiplier of a row that is touched is 0 then; a cut that counts in one list alone has weight 0 in both, since the
 -- list does not name it; and a column that is touched makes no step in either.
-use Rattle.std.specs.Prelude.{◌≡◌, ◌⊎◌, ◌↔◌, ℕ, ◌<◌, Bool, true, false, if◌then◌else◌, not, nat_eq, List, [], ◌∷◌, length, pos, Option, Result}
+use Rattle.std.specs.Prelude.{◌≡◌, ◌⊎◌, ◌↔◌, ℕ, ◌<◌, ◌≤◌, Bool, true, false, if◌then◌else◌, not, nat_eq, List, [], ◌∷◌, length, pos, Option, None, Result}
 use Rattle.std.specs.Option.{option_map}
-use Rattle.std.proofs.Common.{refl, sym, ap, subst, ◌∙◌, inl, inr, true≢false}
+use Rattle.std.proofs.Common.{refl, sym, ap, subst, ◌∙◌, inl, inr, arith, true≢false}
 use Rattle.std.proofs.lemmas.Bool.{eqb-true, and_parts}
 use Rattle.frac128.specs.Rational.{ℚ, int, floor, ceil}
 use Rattle.lp_model.specs.Program.{Program, in_least_form}
@@ -23,9 +23,14 @@ use Rattle.spared_leaves.specs.declared.touched.Touched.{Touched}
 use Rattle.spared_leaves.specs.declared.touched.Touched.TheVariants.{Nothing, OneRow, OneCost, OneColumn}
 use Rattle.spared_leaves.specs.Touched.{leaves_row, cost_touched, column_touched, is_apart, leaves_cost, leaves_column, leaves_cut, leaves_variable, leaves_list}
 use Rattle.spared_leaves.specs.Alike.{IsSameRange, IsSameCut, AreAlikeBut, AreAlikeCuts}
-use Rattle.spared_leaves.specs.Laws.{LikeAnswersLaw, LikeRegionsLaw}
+use Rattle.spared_leaves.specs.Laws.{LikeAnswersLaw, LikeRegionsLaw, LikeLagTotalsLaw, LikeFarkasTotalsLaw, LikeCostTotalsLaw}
 use Rattle.spared_leaves.specs.Questions.{IsQuietColumn, IsSameColumn, IsLikeQuestion}
 use Rattle.spared_leaves.specs.Spared.{IsQuietLag, IsQuietFarkas, HasInEach, IsCrossedIn, KeepsCrossing}
+use Rattle.leaf_totals.specs.Keeping.{list_question}
+use Rattle.leaf_totals.specs.Likeness.{AreLikeTo, question_with}
+use Rattle.leaf_totals.proofs.BackLemmas.{on_to_third}
+use Rattle.leaf_totals.proofs.CostLemmas.{other_costs}
+use Rattle.spared_leaves.proofs.LikeTotals.{like_totals}
 use Rattle.spared_leaves.proofs.LikeQuestions.{question-back, lacks-like, answer-like}
 
 -- ---- what a list does not name
@@ -157,6 +162,9 @@ module _ (t : Touched) (M N : Program) (cuts others : List CutRow) (alike : AreA
     asked-back : IsLikeQuestion N M path others cuts (multiplier mult) (cut_weight cuts mult) d c
     asked-back = question-back M N path cuts others (multiplier mult) (cut_weight cuts mult) c d question
 
+    totals-to : (c₀ : ℚ) → length M.cols ≤ length N.cols → AreLikeTo (length M.cols) (question_with (formulation M cuts) path (multiplier mult) (cut_weight cuts mult) c₀ c) (question_with (formulation N others) path (multiplier mult) (cut_weight cuts mult) c₀ d)
+    totals-to c₀ more = like_totals M N path cuts others (multiplier mult) (cut_weight cuts mult) c d c₀ question more
+
     module _ (c₀ : ℚ) (r : Result LagValue WideStep) where
       answer-to : IsDualAnswer (formulation M cuts) path (multiplier mult) (cut_weight cuts mult) c₀ c r → IsDualAnswer (formulation N others) path (multiplier mult) (cut_weight cuts mult) c₀ d r
       answer-to = answer-like M N path cuts others (multiplier mult) (cut_weight cuts mult) c d c₀ question (lacks-like N M path others cuts (multiplier mult) (cut_weight cuts mult) d c c₀ asked-back) r
@@ -185,6 +193,27 @@ module _ (t : Touched) (M N : Program) (cuts others : List CutRow) (alike : AreA
       (λ h. answer-from (least_cost M) (least_cost N) (cost_touched t) (costs-alike t M N alike) (column-left t) quiet-lag (least_constant M) r (subst (λ P. P) (sym lag-is) h)),
     )
 
+  -- what is kept of the totals
+  lag-totals : HasInEach (IsQuietLag path mult) (cost_touched t) (formulation M cuts) (formulation N others) → length M.cols ≤ length N.cols → AreLikeTo (length M.cols) (list_question (formulation M cuts) path mult true) (list_question (formulation N others) path mult true)
+  lag-totals quiet more =
+      subst (λ P. P) (λ i. AreLikeTo (length M.cols) (question_with (formulation M cuts) path (multiplier mult) (cut_weight cuts mult) (least_constant M) (least_cost M)) (question_with (formulation N others) path (multiplier mult) (weights i) (constant-alike t M N alike i) (least_cost N)))
+      (totals-to (least_cost M) (least_cost N) (cost_touched t) (costs-alike t M N alike) (column-left t) (λ j touched. quiet-here (least_cost M) (least_cost N) j (quiet j touched)) (least_constant M) more)
+
+  farkas-totals : HasInEach (IsQuietFarkas path mult) (column_touched t) (formulation M cuts) (formulation N others) → length M.cols ≤ length N.cols → AreLikeTo (length M.cols) (list_question (formulation M cuts) path mult false) (list_question (formulation N others) path mult false)
+  farkas-totals quiet more =
+      subst (λ P. P) (λ i. AreLikeTo (length M.cols) (question_with (formulation M cuts) path (multiplier mult) (cut_weight cuts mult) (int (pos 0)) (λ j. int (pos 0))) (question_with (formulation N others) path (multiplier mult) (weights i) (int (pos 0)) (λ j. int (pos 0))))
+      (totals-to (λ j. int (pos 0)) (λ j. int (pos 0)) (column_touched t) (λ j left. refl) (λ j left. left) (λ j touched. quiet-here (λ k. int (pos 0)) (λ k. int (pos 0)) j (quiet j touched)) (int (pos 0)) more)
+
+  -- before a column, where no more than costs are touched, and none before that column
+  cost-totals : (p : ℕ) → ((j : ℕ) → leaves_column t j ≡ true) → ((j : ℕ) → j < p → leaves_cost t j ≡ true) → p ≤ length M.cols → length M.cols ≤ length N.cols
+      → AreLikeTo p (list_question (formulation M cuts) path mult true) (list_question (formulation N others) path mult true)
+  cost-totals p columns_left before within more =
+      let same = other_costs (formulation M cuts) path (multiplier mult) (cut_weight cuts mult) (least_constant M) (least_cost M) (least_cost N) p within (λ j below. costs-alike t M N alike j (before j below)) in
+      let on = totals-to (least_cost N) (least_cost N) None (λ j apart. refl) (λ j apart. columns_left j) (λ j touched. absurd (true≢false touched)) (least_constant M) more in
+      subst (λ P. P) (λ i. AreLikeTo p (question_with (formulation M cuts) path (multiplier mult) (cut_weight cuts mult) (least_constant M) (least_cost M)) (question_with (formulation N others) path (multiplier mult) (weights i) (constant-alike t M N alike i) (least_cost N)))
+      (on_to_third p (length M.cols) (question_with (formulation M cuts) path (multiplier mult) (cut_weight cuts mult) (least_constant M) (least_cost M)) (question_with (formulation M cuts) path (multiplier mult) (cut_weight cuts mult) (least_constant M) (least_cost N))
+      (question_with (formulation N others) path (multiplier mult) (cut_weight cuts mult) (least_constant M) (least_cost N)) within same on)
+
   module _ (quiet : HasInEach (IsQuietFarkas path mult) (column_touched t) (formulation M cuts) (formulation N others)) (r : Result LagValue WideStep) where
     farkas-is : ◌≡◌ {A = Type 0} (IsDualAnswer (formulation N others) path (multiplier mult) (cut_weight cuts mult) (int (pos 0)) (λ j. int (pos 0)) r) (IsFarkasAnswer (formulation N others) path mult r)
     farkas-is = λ i. IsDualAnswer (formulation N others) path (multiplier mult) (weights i) (int (pos 0)) (λ j. int (pos 0)) r
@@ -205,3 +234,21 @@ like_answers t M N cuts others alike alike_cuts path mult left r = (
   (λ quiet. lag-alike t M N cuts others alike alike_cuts path mult left quiet r),
   (λ quiet. farkas-alike t M N cuts others alike alike_cuts path mult left quiet r),
 )
+
+pub like_lag_totals : LikeLagTotalsLaw
+like_lag_totals t M N cuts others alike alike_cuts path mult left = lag-totals t M N cuts others alike alike_cuts path mult left
+
+pub like_farkas_totals : LikeFarkasTotalsLaw
+like_farkas_totals t M N cuts others alike alike_cuts path mult left = farkas-totals t M N cuts others alike alike_cuts path mult left
+
+-- place j is not that of the column
+apart-below : (col : ColId) (j : ℕ) → j < col.0 → not (nat_eq col.0 j) ≡ true
+apart-below col j below = by (nat_eq col.0 j) refl
+  where
+    by : (b : Bool) → nat_eq col.0 j ≡ b → not b ≡ true
+    by true e = let same : col.0 ≡ j = eqb-true col.0 j e in absurd (omega (arith, same, below))
+    by false e = refl
+
+pub like_cost_totals : LikeCostTotalsLaw
+like_cost_totals col M N cuts others alike alike_cuts path mult left within more =
+    cost-totals (OneCost col) M N cuts others alike alike_cuts path mult left col.0 (λ j. refl) (λ j below. apart-below col j below) within more

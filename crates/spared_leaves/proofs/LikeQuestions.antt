@@ -53,10 +53,10 @@ question-back M N path cuts others y z c d q = record {
 -- ---- a number of 0
 
 -- takes the side 0
-side-zero : (v : ℚ) (lo hi : Option ℚ) → v ≡ int (pos 0) → needed_side v lo hi ≡ Some (int (pos 0))
+pub side-zero : (v : ℚ) (lo hi : Option ℚ) → v ≡ int (pos 0) → needed_side v lo hi ≡ Some (int (pos 0))
 side-zero v lo hi none = ap (λ u. needed_side u lo hi) none ∙ ap (λ r. side_by r lo hi) (cmp_self (int (pos 0)))
 
-some-none : (v : ℚ) → Some v ≢ None
+pub some-none : (v : ℚ) → Some v ≢ None
 some-none v e = cc
 
 times-zero : (v : ℚ) (lo hi : Option ℚ) → v ≡ int (pos 0) → times v (needed_side v lo hi) ≡ nothing
@@ -101,7 +101,7 @@ module _ (M N : Program) (path : Path) (cuts others : List CutRow) (y z c d : �
 
   -- ---- rows
 
-  row_side-like : (i : ℕ) → row_side M y i ≡ row_side N y i
+  pub row_side-like : (i : ℕ) → row_side M y i ≡ row_side N y i
   row_side-like i = elim (q.rows_are i) [
     | inl none ↦ side-zero (y i) (low_side M i) (high_side M i) none ∙ sym (side-zero (y i) (low_side N i) (high_side N i) none)
     | inr same ↦ (λ t. needed_side (y i) (same.low t) (same.high t))
@@ -110,10 +110,10 @@ module _ (M N : Program) (path : Path) (cuts others : List CutRow) (y z c d : �
   row_terms : (i : ℕ) → IsLikeTerm y (row_number M y) y (row_number N y) (length M.rows) (length N.rows) i
   row_terms i = one-factor y (row_number M y) (row_number N y) (length M.rows) (length N.rows) i (elim (q.rows_are i) [ inl none ↦ inl none | inr same ↦ inr (ap side_number (row_side-like i), same.there) ])
 
-  rows_total-like : rows_total M y c₀ ≡ rows_total N y c₀
+  pub rows_total-like : rows_total M y c₀ ≡ rows_total N y c₀
   rows_total-like = partial-like y (row_number M y) y (row_number N y) (length M.rows) (length N.rows) row_terms c₀ c₀ (λ i. c₀)
 
-  rows_fit-like : RowsFit M y c₀ → RowsFit N y c₀
+  pub rows_fit-like : RowsFit M y c₀ → RowsFit N y c₀
   rows_fit-like = fits-like y (row_number M y) y (row_number N y) (length M.rows) (length N.rows) row_terms c₀ c₀ (λ i. c₀)
 
   row_values : (i : ℕ) → IsLikeValue (λ k. times (y k) (row_side M y k)) (λ k. times (y k) (row_side N y k)) (length M.rows) (length N.rows) i
@@ -125,7 +125,7 @@ module _ (M N : Program) (path : Path) (cuts others : List CutRow) (y z c d : �
   rows_number-like : rows_number M y ≡ rows_number N y
   rows_number-like = total-like (λ i. times (y i) (row_side M y i)) (λ i. times (y i) (row_side N y i)) (length M.rows) (length N.rows) row_values
 
-  lacks_row-like : LacksRowSide M y → LacksRowSide N y
+  pub lacks_row-like : LacksRowSide M y → LacksRowSide N y
   lacks_row-like (i, (below, lacks)) = elim (q.rows_are i) [
     | inl none ↦ absurd (some-none (int (pos 0)) (sym (side-zero (y i) (low_side M i) (high_side M i) none) ∙ lacks))
     | inr same ↦ (i, (same.there.0 below, sym (row_side-like i) ∙ lacks))
@@ -133,7 +133,7 @@ module _ (M N : Program) (path : Path) (cuts others : List CutRow) (y z c d : �
 
   -- ---- cuts
 
-  cut_side-like : (k : ℕ) → cut_side cuts z k ≡ cut_side others z k
+  pub cut_side-like : (k : ℕ) → cut_side cuts z k ≡ cut_side others z k
   cut_side-like k = elim (q.cuts_are k) [
     | inl none ↦ side-zero (z k) None (cut_high cuts k) none ∙ sym (side-zero (z k) None (cut_high others k) none)
     | inr same ↦ ap (needed_side (z k) None) same.high
@@ -142,10 +142,10 @@ module _ (M N : Program) (path : Path) (cuts others : List CutRow) (y z c d : �
   cut_terms : (k : ℕ) → IsLikeTerm z (cut_number cuts z) z (cut_number others z) (length cuts) (length others) k
   cut_terms k = one-factor z (cut_number cuts z) (cut_number others z) (length cuts) (length others) k (elim (q.cuts_are k) [ inl none ↦ inl none | inr same ↦ inr (ap side_number (cut_side-like k), same.there) ])
 
-  cuts_total-like : cuts_total F y z c₀ ≡ cuts_total G y z c₀
+  pub cuts_total-like : cuts_total F y z c₀ ≡ cuts_total G y z c₀
   cuts_total-like = partial-like z (cut_number cuts z) z (cut_number others z) (length cuts) (length others) cut_terms (rows_total M y c₀) (rows_total N y c₀) rows_total-like
 
-  cuts_fit-like : CutsFit F y z c₀ → CutsFit G y z c₀
+  pub cuts_fit-like : CutsFit F y z c₀ → CutsFit G y z c₀
   cuts_fit-like = fits-like z (cut_number cuts z) z (cut_number others z) (length cuts) (length others) cut_terms (rows_total M y c₀) (rows_total N y c₀) rows_total-like
 
   cut_values : (k : ℕ) → IsLikeValue (λ i. times (z i) (cut_side cuts z i)) (λ i. times (z i) (cut_side others z i)) (length cuts) (length others) k
@@ -157,7 +157,7 @@ module _ (M N : Program) (path : Path) (cuts others : List CutRow) (y z c d : �
   cuts_number-like : cuts_number cuts z ≡ cuts_number others z
   cuts_number-like = total-like (λ k. times (z k) (cut_side cuts z k)) (λ k. times (z k) (cut_side others z k)) (length cuts) (length others) cut_values
 
-  lacks_cut-like : LacksCutSide cuts z → LacksCutSide others z
+  pub lacks_cut-like : LacksCutSide cuts z → LacksCutSide others z
   lacks_cut-like (k, (below, lacks)) = elim (q.cuts_are k) [
     | inl none ↦ absurd (some-none (int (pos 0)) (sym (side-zero (z k) None (cut_high cuts k) none) ∙ lacks))
     | inr same ↦ (k, (same.there.0 below, sym (cut_side-like k) ∙ lacks))
@@ -190,10 +190,10 @@ module _ (M N : Program) (path : Path) (cuts others : List CutRow) (y z c d : �
     reduced-like : column_reduced_cost F y z c j ≡ column_reduced_cost G y z d j
     reduced-like = λ t. s.cost_is t -ℚ cut_sum-like t -ℚ row_sum-like t
 
-    side-like : column_side F path y z c j ≡ column_side G path y z d j
+    pub side-like : column_side F path y z c j ≡ column_side G path y z d j
     side-like = λ t. needed_side (reduced-like t) (s.low t) (s.high t)
 
-    entries-like : EntriesFit F y z c j → EntriesFit G y z d j
+    pub entries-like : EntriesFit F y z c j → EntriesFit G y z d j
     entries-like h = record {
       of_rows = fits-like (λ k. neg_ℚ (y k)) (λ k. coefficient M k j) (λ k. neg_ℚ (y k)) (λ k. coefficient N k j) (length M.rows) (length N.rows) row_entries (c j) (d j) s.cost_is h.of_rows;
       of_cuts = fits-like (λ i. neg_ℚ (z i)) (λ i. cut_coefficient cuts i j) (λ i. neg_ℚ (z i)) (λ i. cut_coefficient others i j) (length cuts) (length others) cut_entries (left_by_rows M y c j) (left_by_rows N y d j) left-like h.of_cuts;
@@ -209,7 +209,7 @@ module _ (M N : Program) (path : Path) (cuts others : List CutRow) (y z c d : �
 
   -- ---- all columns
 
-  column_terms : (j : ℕ) → IsLikeTerm (column_reduced_cost F y z c) (bound_number F path y z c) (column_reduced_cost G y z d) (bound_number G path y z d) (length M.cols) (length N.cols) j
+  pub column_terms : (j : ℕ) → IsLikeTerm (column_reduced_cost F y z c) (bound_number F path y z c) (column_reduced_cost G y z d) (bound_number G path y z d) (length M.cols) (length N.cols) j
   column_terms j = elim (q.columns_are j) [
     | inl same ↦ inl (reduced-like j same, (ap side_number (side-like j same), same.there))
     | inr quiet ↦ inr ((λ h. quiet-step F path y z c j (quiet.0 h)), (λ h. quiet-step G path y z d j (quiet.1 h)))
@@ -222,7 +222,7 @@ module _ (M N : Program) (path : Path) (cuts others : List CutRow) (y z c d : �
   ]
 
   -- a column that both have
-  column-like : (j : ℕ) → j < length M.cols → j < length N.cols → ColumnFits F path y z c (cuts_total F y z c₀) j → ColumnFits G path y z d (cuts_total G y z c₀) j
+  pub column-like : (j : ℕ) → j < length M.cols → j < length N.cols → ColumnFits F path y z c (cuts_total F y z c₀) j → ColumnFits G path y z d (cuts_total G y z c₀) j
   column-like j left right own = record {
     entries = elim (q.columns_are j) [ inl same ↦ entries-like j same own.entries | inr quiet ↦ (quiet.1 right).entries ];
     term = step-like (column_reduced_cost F y z c) (bound_number F path y z c) (column_reduced_cost G y z d) (bound_number G path y z d) (length M.cols) (length N.cols) column_terms (cuts_total F y z c₀) (cuts_total G y z c₀) cuts_total-like j left right own.term;
@@ -261,7 +261,7 @@ module _ (M N : Program) (path : Path) (cuts others : List CutRow) (y z c d : �
 
   -- ---- steps without room
 
-  wide_term-like : (of : Var) → IsFirstWideTerm F path y z c₀ c of → IsFirstWideTerm G path y z c₀ d of
+  pub wide_term-like : (of : Var) → IsFirstWideTerm F path y z c₀ c of → IsFirstWideTerm G path y z c₀ d of
   wide_term-like (Row row) h = first-like y (row_number M y) y (row_number N y) (length M.rows) (length N.rows) row_terms c₀ c₀ (λ i. c₀) row.0 h
   wide_term-like (Cut cut) h = (
     rows_fit-like h.0,
@@ -280,7 +280,7 @@ module _ (M N : Program) (path : Path) (cuts others : List CutRow) (y z c d : �
     | inr quiet ↦ absurd (h.2 (fits-none (cuts_total F y z c₀ +ℚ sum_below col.0 (λ k. column_reduced_cost F y z c k *ℚ bound_number F path y z c k)) (column_reduced_cost F y z c) (bound_number F path y z c) col.0 (quiet-step F path y z c col.0 (quiet.0 h.0.within))))
   ]
 
-  place-like : (p : LagPlace) → IsFirstWidePlace F path y z c₀ c p → IsFirstWidePlace G path y z c₀ d p
+  pub place-like : (p : LagPlace) → IsFirstWidePlace F path y z c₀ c p → IsFirstWidePlace G path y z c₀ d p
   place-like (Entry col by) h = elim (q.columns_are col) [
     | inl same ↦ (reached-like col (same.there.0 h.0.within) h.0, entry-like col same by h.1)
     | inr quiet ↦ absurd (quiet-entry F path y z c col (quiet.0 h.0.within) by h.1)

@@ -92,7 +92,7 @@ module _ (a x b w : ℕ → ℚ) (n m : ℕ) (like : (k : ℕ) → IsLikeTerm a 
     | inr quiet ↦ product-none a x k (quiet.0 left) ∙ sym (product-none b w k (quiet.1 right))
   ]
 
-  before-like : (k : ℕ) → k ≤ n → k ≤ m → sum_below k (λ j. a j *ℚ x j) ≡ sum_below k (λ j. b j *ℚ w j)
+  pub before-like : (k : ℕ) → k ≤ n → k ≤ m → sum_below k (λ j. a j *ℚ x j) ≡ sum_below k (λ j. b j *ℚ w j)
   before-like k left right = sum_below-same k (λ j. a j *ℚ x j) (λ j. b j *ℚ w j) (λ j below. products-like j (omega arith) (omega arith))
 
   pub sum-like : sum_below n (λ j. a j *ℚ x j) ≡ sum_below m (λ j. b j *ℚ w j)

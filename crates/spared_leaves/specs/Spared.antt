@@ -1,5 +1,5 @@
--- What an edit spares of a leaf: whether its region is empty, and the answers of its two lists.
-use Rattle.std.specs.Prelude.{◌≡◌, ◌↔◌, ℕ, ◌<◌, false, length, pos, Option, Result}
+-- What an edit spares of a leaf: whether its region is empty, the answers of its two lists, and what is kept of their totals.
+use Rattle.std.specs.Prelude.{◌≡◌, ◌↔◌, ℕ, ◌<◌, ◌≤◌, true, false, length, pos, Option, Some, None, Result}
 use Rattle.frac128.specs.Rational.{int}
 use Rattle.lp_model.specs.Program.{Program}
 use Rattle.lp_model.specs.Regions.{Path, region_low, region_high, IsCrossed, IsEmptyRegion}
@@ -9,6 +9,8 @@ use Rattle.lp_model.specs.declared.types.WideStep.{WideStep}
 use Rattle.leaf_dual.specs.declared.dual.LagValue.{LagValue}
 use Rattle.leaf_dual.specs.Dual.{Multipliers, multiplier, cut_weight, least_cost}
 use Rattle.leaf_dual.specs.Answers.{IsLagAnswer, IsFarkasAnswer}
+use Rattle.leaf_totals.specs.Keeping.{list_question}
+use Rattle.leaf_totals.specs.Likeness.{AreLikeTo}
 use Rattle.spared_leaves.specs.Touched.{is_apart}
 use Rattle.spared_leaves.specs.Questions.{IsQuietColumn}
 
@@ -30,8 +32,15 @@ IsCrossedIn path M j = (j < length M.cols) × IsCrossed (region_low M path j) (r
 abbrev pub KeepsCrossing : Path → Option ColId → Program → Program → Type 0
 KeepsCrossing path col M N = (j : ℕ) → is_apart col j ≡ false → IsCrossedIn path M j ↔ IsCrossedIn path N j
 
+-- neither has the column, if one is given
+abbrev pub IsAbsent : Option ColId → Program → Program → Type 0
+IsAbsent None M N = Unit {0}
+IsAbsent (Some col) M N = (length M.cols ≤ col.0) × (length N.cols ≤ col.0)
+
 -- the same in both
 pub record IsSpared (F G : Formulation) (path : Path) (mult farkas : Multipliers) : Type 0 where
   pub empty : IsEmptyRegion F.model path ↔ IsEmptyRegion G.model path
   pub lag : (r : Result LagValue WideStep) → IsLagAnswer F path mult r ↔ IsLagAnswer G path mult r
   pub refuting : (r : Result LagValue WideStep) → IsFarkasAnswer F path farkas r ↔ IsFarkasAnswer G path farkas r
+  pub lag_totals : length F.model.cols ≤ length G.model.cols → AreLikeTo (length F.model.cols) (list_question F path mult true) (list_question G path mult true)
+  pub farkas_totals : length F.model.cols ≤ length G.model.cols → AreLikeTo (length F.model.cols) (list_question F path farkas false) (list_question G path farkas false)

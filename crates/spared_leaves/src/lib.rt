@@ -22,6 +22,7 @@ mod touched;
 pub use posed::Posed;
 pub use spared::Change;
 pub use touched::{
-    Touched, leaves_list, like_answers_law, like_edits_law, like_pools_law, like_questions_law,
+    Touched, leaves_list, like_answers_law, like_cost_totals_law, like_edits_law,
+    like_farkas_totals_law, like_lag_totals_law, like_pools_law, like_questions_law,
     like_regions_law, touched_by,
 };

@@ -1,5 +1,5 @@
 // One column of a model with its cuts: what a list of multipliers leaves of its cost, and whether its term makes a step.
-ghost use Rattle.std.specs.Prelude.{◌≡◌, ◌↔◌, ◌<◌, ℕ, length, if◌then◌else◌, pos, IsTrue, Some, IfSome, OkIff};
+ghost use Rattle.std.specs.Prelude.{◌≡◌, ◌↔◌, ◌<◌, ◌≤◌, ℕ, length, if◌then◌else◌, pos, IsTrue, Some, IfSome, OkIff};
 ghost use Rattle.frac128.specs.Rational.{ℚ, int, neg_ℚ, ◌+ℚ◌, ◌*ℚ◌};
 ghost use Rattle.checked_sum.specs.Steps.{StepFits};
 ghost use Rattle.lp_model.specs.Program.{coefficient};
@@ -198,7 +198,8 @@ impl Posed<'_> {
         col: usize,
     ) -> bool
         requires { AreNarrow region.now }
-        ensures { IsTrue result → col < length self.now.model.now.cols → IsQuietColumn (formulation self.now.model.now self.now.cuts.now) region.now (multiplier mult.now) (cut_weight self.now.cuts.now mult.now) (cost_of costed self.now.model.now) col }
+        ensures absent { length self.now.model.now.cols ≤ col → IsTrue result }
+        ensures quiet { IsTrue result → col < length self.now.model.now.cols → IsQuietColumn (formulation self.now.model.now self.now.cuts.now) region.now (multiplier mult.now) (cut_weight self.now.cuts.now mult.now) (cost_of costed self.now.model.now) col }
     {
         if col >= self.model.cols().len() {
             return true;

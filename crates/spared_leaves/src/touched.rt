@@ -3,7 +3,7 @@ ghost use Rattle.std.specs.Prelude.{◌≡◌};
 ghost use Rattle.lp_model.specs.Cuts.{is_live};
 ghost use Rattle.lp_model.specs.Edits.{EditFits};
 ghost use Rattle.spared_leaves.specs.Touched.{touched_by, cost_touched, column_touched, leaves_row, leaves_cut, leaves_variable, leaves_list};
-ghost use Rattle.spared_leaves.specs.Laws.{LikeQuestionsLaw, LikeAnswersLaw, LikeRegionsLaw, LikeEditsLaw, LikePoolsLaw};
+ghost use Rattle.spared_leaves.specs.Laws.{LikeQuestionsLaw, LikeAnswersLaw, LikeRegionsLaw, LikeEditsLaw, LikePoolsLaw, LikeLagTotalsLaw, LikeFarkasTotalsLaw, LikeCostTotalsLaw};
 
 use branch_tree::{col_of, row_of};
 use frac128::Frac;
@@ -145,4 +145,19 @@ pub fn like_edits_law()
 /// Cuts of the same derivations are alike.
 pub fn like_pools_law()
     ensures { LikePoolsLaw }
+{}
+
+/// What is kept of a leaf's totals stands in models with their cuts that are alike, where a column that is touched makes no step.
+pub fn like_lag_totals_law()
+    ensures { LikeLagTotalsLaw }
+{}
+
+/// The same of the totals with all costs 0.
+pub fn like_farkas_totals_law()
+    ensures { LikeFarkasTotalsLaw }
+{}
+
+/// Where the cost of one column is touched, what is kept before that column stands.
+pub fn like_cost_totals_law()
+    ensures { LikeCostTotalsLaw }
 {}

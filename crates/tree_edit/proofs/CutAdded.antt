@@ -23,6 +23,7 @@ use Rattle.search_parts.specs.Points.{target}
 use Rattle.search_parts.specs.Lists.{HasLists, HasNodeLists}
 use Rattle.sound_searches.specs.Sound.{PlainSearch, formulation_of}
 use Rattle.tree_edit.specs.Indexed.{IsIndexed}
+use Rattle.tree_edit.proofs.FurtherEntry.{entry-more}
 use Rattle.sound_searches.specs.Pool.{search_with_cut, AddsCut}
 use Rattle.sound_searches.proofs.FurtherCut.{lists-more, number-more, judged-more, each-more}
 
@@ -33,7 +34,7 @@ module _ (F : Formulation) (c : CutRow) where
   -- ---- leaves
 
   kept-more : (numbers : LeafNumbers) (path : Path) (l : LeafKept) → HasLists F l.kept → HasKept F numbers path l → HasKept G numbers path l
-  kept-more numbers path l lists h = (h.0, (h.1.0, number-more F c path l.kept.mult l.kept.farkas lists.mult lists.farkas h.0 h.1.1))
+  kept-more numbers path l lists h = (h.0, (h.1.0, entry-more F c path l.kept.mult l.kept.farkas lists.mult lists.farkas h.0 h.1.1))
 
   candidate-more : (path : Path) (l : LeafKept) (d : Candidate) → HasLists F l.kept → IsCandidate F (region_leaf (path, l)) d → IsCandidate G (region_leaf (path, l)) d
   candidate-more path l d lists h = record {

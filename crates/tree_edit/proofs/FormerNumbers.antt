@@ -33,7 +33,7 @@ pub record LeavesCuts (M : Program) (e : Edit) : Type 0 where
   pub tree : (T : NumberedTree) → followed_edit T M e ≡ T
 
 module _ (M : Program) (e : Edit) (h : LeavesCuts M e) where
-  derivations-left : (ds : List Derivation) → derivations_after M e ds ≡ ds
+  pub derivations-left : (ds : List Derivation) → derivations_after M e ds ≡ ds
   derivations-left [] = refl
   derivations-left (d ∷ ds) = rw (h.stays d) (λ i. h.same d i ∷ derivations-left ds i)
 

@@ -11,11 +11,12 @@ use Rattle.tight_regions.proofs.TightLemmas.{low_step, high_step, low-more, high
 use Rattle.leaf_dual.specs.Dual.{Multipliers}
 use Rattle.leaf_dual.proofs.SameRegion.{low-same, high-same}
 use Rattle.leaf_judging.proofs.SameNumber.{number-same}
+use Rattle.leaf_judging.proofs.SameEntry.{entry-same}
 use Rattle.search_parts.specs.Checks.{IsFrom, IsUnder}
 use Rattle.sound_searches.specs.Placing.{IsSplitSound}
 use Rattle.sound_searches.specs.Sound.{PlainSearch, formulation_of}
 use Rattle.tree_edit.specs.declared.splitting.Child.{Child}
-use Rattle.tree_edit.specs.private.PlacingSteps.{IsNumberedChild}
+use Rattle.tree_edit.specs.private.PlacingSteps.{IsEnteredChild}
 
 module _ (R P : Path) (s : SameBounds R P) where
   -- with one more change
@@ -37,7 +38,7 @@ module _ (R P : Path) (s : SameBounds R P) where
     basis_is = is.basis_is;
   }
 
-  pub child-same : (S : PlainSearch) (mult : Multipliers) (basis : Basis) (child : Child) → IsNumberedChild S R mult basis child → IsNumberedChild S P mult basis child
+  pub child-same : (S : PlainSearch) (mult : Multipliers) (basis : Basis) (child : Child) → IsEnteredChild S R mult basis child → IsEnteredChild S P mult basis child
   child-same S mult basis child is =
       let F = formulation_of S in
       let judged = is.kept.judged in
@@ -48,5 +49,5 @@ module _ (R P : Path) (s : SameBounds R P) where
           basis_is = is.kept.basis_is;
           judged = record { number = judged.number; number_is = number-same F R P s child.kept.mult child.kept.farkas judged.number judged.number_is; says = judged.says };
         };
-        number = number-same F R P s child.kept.mult child.kept.farkas child.number is.number;
+        entry = entry-same F R P s child.kept.mult child.kept.farkas child.entry is.entry;
       }

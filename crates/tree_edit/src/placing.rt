@@ -4,7 +4,8 @@ ghost use Rattle.std.specs.Prelude.{◌≡◌, ◌≤◌, Some, ◌++◌, ◌∷
 ghost use Rattle.lp_model.specs.Regions.{AreNarrow};
 ghost use Rattle.branch_tree.specs.declared.node.LeafState.TheVariants.{IsOpen, IsClosed};
 ghost use Rattle.branch_tree.specs.declared.node.NodeResult.TheVariants.{PointAndClose, Keep};
-ghost use Rattle.leaf_judging.specs.Closing.{IsNumber, IsJudgedLeaf, ClosesBy};
+ghost use Rattle.leaf_judging.specs.Closing.{IsJudgedLeaf, ClosesBy};
+ghost use Rattle.leaf_judging.specs.Totals.{IsEntryOf};
 ghost use Rattle.search_parts.specs.Points.{IsKeepable, target};
 ghost use Rattle.search_parts.specs.Lists.{AreMultipliers, HasLists};
 ghost use Rattle.search_parts.specs.Joining.{IsPlaceWithin, list_without};
@@ -13,7 +14,7 @@ ghost use Rattle.branch_tree.specs.Changes.{HasLeaf, with_leaf_states};
 ghost use Rattle.branch_tree.specs.Plain.{data_of};
 ghost use Rattle.branch_tree.specs.declared.node.LeafData.{LeafData};
 ghost use Rattle.leaf_judging.specs.Queued.{HasFiniteNumber, HasMultipliers};
-ghost use Rattle.tree_edit.specs.private.PlacingSteps.{JoinsPoint, ClosesByNumber, StaysOpen};
+ghost use Rattle.tree_edit.specs.private.PlacingSteps.{JoinsPoint, ClosesByEntry, StaysOpen};
 ghost use Rattle.sound_searches.specs.declared.taken.Taken.TheVariants.{Refused};
 ghost use Rattle.sound_searches.specs.Placing.{TakesPoint, HasLeafAt, search_with_leaf, TakesClose, TakesPointClose, PutsJudged, TakesPointKeep, TakesBasis, IsStale, IsOpenPlace, Takes, closed_data, with_basis};
 ghost use Rattle.sound_searches.specs.Calls.{IsOpenLeaf};
@@ -24,7 +25,7 @@ use crate::splitting::Split;
 use branch_tree::{Job, LeafData, LeafState, NodeResult, Tree};
 use frac128::Frac;
 use leaf_judging::{
-    Candidate, LeafNumber, LeafQueue, Marks, finite_number, judge_again, number_closes, number_of,
+    Candidate, LeafEntry, LeafQueue, Marks, entry_of, finite_number, judge_again, number_closes,
 };
 use lp_model::{Basis, Mult, Point, Region};
 use search_parts::{
@@ -108,10 +109,10 @@ impl Search {
         finite_number(&self.numbers.number_or_minus(id))
     }
 
-    /// Gives the leaf with the id data with this number, by which it is closed.
-    fn put_closed(&mut self, id: u64, region: &Region, kept: LeafData, number: &LeafNumber)
+    /// Gives the leaf with the id data with this entry, by which it is closed.
+    fn put_closed(&mut self, id: u64, region: &Region, kept: LeafData, entry: LeafEntry)
         requires leaf { HasLeafAt self.old.tree id region.now }
-        requires number { IsNumber (formulation_of self.old) region.now kept.mult kept.farkas number.now }
+        requires entry { IsEntryOf (formulation_of self.old) region.now kept.mult kept.farkas entry }
         requires lists { HasLists (formulation_of self.old) kept }
         requires judged { IsJudgedLeaf (formulation_of self.old) (target self.old.model self.old.points) region.now kept }
         requires closed { kept.state ≡ IsClosed }
@@ -119,20 +120,20 @@ impl Search {
     {
         let leaf_number = self.leaf_number_of(id);
         self.queue.remove(&Some(Candidate { leaf_number, id }));
-        self.numbers.set(id, number);
+        self.numbers.set(id, entry);
         self.tree.set_leaf(id, kept);
     }
 
-    /// The number of a leaf of a region with these data, if they fit and it closes against the target by them, and else what is
+    /// The entry of a leaf of a region with these data, if they fit and it closes against the target by them, and else what is
     /// answered.
     fn closing(
         &self,
         target: &Option<Frac>,
         region: &Region,
         kept: &LeafData,
-    ) -> Result<LeafNumber, Result<Taken, AllocError>>
+    ) -> Result<LeafEntry, Result<Taken, AllocError>>
         requires { AreNarrow region.now }
-        ensures closes { IfOk result (ClosesByNumber (formulation_of self.now) target.now region.now kept.now) }
+        ensures closes { IfOk result (ClosesByEntry (formulation_of self.now) target.now region.now kept.now) }
         ensures open { IfErr result (λ answer. IfOk answer (StaysOpen (formulation_of self.now) target.now region.now kept.now)) }
     {
         match has_lists(self.alloc, &self.model, &self.pool, kept) {
@@ -140,18 +141,24 @@ impl Search {
             Ok(false) => return Err(Ok(Taken::Refused)),
             Err(error) => return Err(Err(error)),
         }
-        let number = number_of(
+        match entry_of(
+            self.alloc,
             &self.model,
             &self.pool,
             region.as_slice(),
             &kept.mult,
             &kept.farkas,
-        );
-        let closes = number_closes(&self.model, target, &number);
-        if closes {
-            Ok(number)
-        } else {
-            Err(Ok(Taken::Reopened))
+        ) {
+            Ok(entry) => {
+                let closes = number_closes(&self.model, target, &entry.number);
+                if closes {
+                    Ok(entry)
+                } else {
+                    drop(entry);
+                    Err(Ok(Taken::Reopened))
+                }
+            }
+            Err(error) => Err(Err(error)),
         }
     }
 
@@ -165,8 +172,8 @@ impl Search {
     {
         let target = self.target();
         match self.closing(&target, region, &kept) {
-            Ok(number) => {
-                self.put_closed(id, region, kept, &number);
+            Ok(entry) => {
+                self.put_closed(id, region, kept, entry);
                 Ok(Taken::Closed)
             }
             Err(answer) => {
@@ -184,10 +191,10 @@ impl Search {
         point: Point,
         joined: Joined,
         kept: LeafData,
-        number: &LeafNumber,
+        entry: LeafEntry,
     ) -> Result<Taken, AllocError>
         requires leaf { HasLeafAt self.old.tree id region.now }
-        requires number { IsNumber (formulation_of self.old) region.now kept.mult kept.farkas number.now }
+        requires entry { IsEntryOf (formulation_of self.old) region.now kept.mult kept.farkas entry }
         requires closed { kept.state ≡ IsClosed }
         requires joined { JoinsPoint self.old point joined }
         requires lists { HasLists (formulation_of self.old) kept }
@@ -197,11 +204,12 @@ impl Search {
     {
         match self.take_point(point, joined) {
             Ok(()) => {
-                self.put_closed(id, region, kept, number);
+                self.put_closed(id, region, kept, entry);
                 Ok(Taken::Closed)
             }
             Err(error) => {
                 drop(kept);
+                drop(entry);
                 Err(error)
             }
         }
@@ -224,7 +232,7 @@ impl Search {
         ensures kept { OnErr result (self.new ≡ self.old) }
     {
         match self.closing(&joined.target, region, &kept) {
-            Ok(number) => self.put_joined_close(id, region, point, joined, kept, &number),
+            Ok(entry) => self.put_joined_close(id, region, point, joined, kept, entry),
             Err(answer) => {
                 drop(point);
                 drop(joined);

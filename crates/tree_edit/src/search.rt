@@ -19,7 +19,7 @@ ghost use Rattle.sound_searches.specs.Calls.{IsNext, IsFresh, search_with_limit,
 use branch_tree::Tree;
 use cover_cuts::{CutPool, PoolFault};
 use frac128::Frac;
-use leaf_judging::{Candidate, LeafIndex, LeafNumber, LeafNumbers, LeafQueue, judge_all};
+use leaf_judging::{Candidate, LeafIndex, LeafNumber, LeafNumbers, LeafQueue, judge_all_unseen};
 use lp_model::{CutId, Derivation, Model, NODE_LIMIT, Point};
 use search_parts::oldest_least;
 use std::alloc::{AllocError, Global};
@@ -64,7 +64,7 @@ fn judged_tree(alloc: Global, model: &Model, limit: u64) -> Result<(Tree, LeafIn
         return Err(AllocError);
     };
     let none = CutPool::new(alloc);
-    match judge_all(alloc, model, &none, &None, &mut tree) {
+    match judge_all_unseen(alloc, model, &none, &None, &mut tree) {
         Ok(index) => Ok((tree, index)),
         Err(error) => {
             drop(tree);

@@ -9,13 +9,13 @@ ghost use Rattle.branch_tree.specs.Changes.{HasLeaf, HasRoom};
 ghost use Rattle.sound_searches.specs.Placing.{HasLeafAt, IsSplitSound, TakesSplit, tree_with_split};
 ghost use Rattle.leaf_judging.specs.Numbers.{HasBoth, KeepsOtherTwo};
 ghost use Rattle.leaf_judging.specs.Queued.{IsNew, AddsBoth, IsSameQueue};
-ghost use Rattle.tree_edit.specs.private.PlacingSteps.{IsNumberedChild, child_candidate};
+ghost use Rattle.tree_edit.specs.private.PlacingSteps.{IsEnteredChild, child_candidate};
 ghost use Rattle.sound_searches.specs.Sound.{formulation_of};
 
 use crate::search::Search;
 use branch_tree::{LeafData, Tree, copy_lists};
 use leaf_judging::{
-    Candidate, LeafNumber, LeafNumbers, LeafQueue, as_candidate, finite_number, number_of, state_by,
+    Candidate, LeafEntry, LeafNumbers, LeafQueue, as_candidate, entry_of, finite_number, state_by,
 };
 use lp_model::{Basis, BoundChange, ColId, List, Mult, Region};
 use search_parts::{are_multipliers, is_basis, is_split_allowed};
@@ -49,11 +49,11 @@ impl Split {
     }
 }
 
-/// A split's child, with its number.
+/// A split's child, with its entry.
 #[derive(Drop)]
 pub(crate) struct Child {
     pub(crate) kept: LeafData,
-    pub(crate) number: LeafNumber,
+    pub(crate) entry: LeafEntry,
 }
 
 /// A split of a leaf, with its two children.
@@ -64,16 +64,21 @@ pub(crate) struct Branching {
     pub(crate) right: Child,
 }
 
-/// Splits the leaf with the id, whose children are these. There is room, so that nothing but memory can be missing.
-fn split_tree(tree: &mut Tree, id: u64, branching: Branching) -> Result<(), AllocError>
+/// Splits the leaf with the id, whose children get these data. There is room, so that nothing but memory can be missing.
+fn split_tree(
+    tree: &mut Tree,
+    id: u64,
+    split: Split,
+    left: LeafData,
+    right: LeafData,
+) -> Result<(), AllocError>
     requires has { HasLeaf tree.old id }
-    requires high { branching.split.v <ℤ pos largest }
-    ensures split { OnOk result (tree.new ≡ tree_with_split tree.old id branching.split.col.0 branching.split.v branching.split.mult branching.split.basis branching.left.kept branching.right.kept) }
+    requires high { split.v <ℤ pos largest }
+    ensures split { OnOk result (tree.new ≡ tree_with_split tree.old id split.col.0 split.v split.mult split.basis left right) }
     ensures room { OnOk result (HasRoom tree.old) }
     ensures kept { OnErr result (tree.new ≡ tree.old) }
 {
     let _numbered = tree.nodes();
-    let Branching { split, left, right } = branching;
     let Split {
         col,
         v,
@@ -82,8 +87,8 @@ fn split_tree(tree: &mut Tree, id: u64, branching: Branching) -> Result<(), Allo
     } = split;
     match tree.replace_leaf(id, col, v, mult, basis) {
         Ok((first, second)) => {
-            tree.set_leaf(first, left.kept);
-            tree.set_leaf(second, right.kept);
+            tree.set_leaf(first, left);
+            tree.set_leaf(second, right);
             Ok(())
         }
         Err(_) => {
@@ -98,35 +103,36 @@ fn split_tree(tree: &mut Tree, id: u64, branching: Branching) -> Result<(), Allo
 fn candidate(child: &Child, id: u64) -> Option<Candidate>
     ensures { result ≡ child_candidate child.now id }
 {
-    as_candidate(&child.kept.state, finite_number(&child.number), id)
+    as_candidate(&child.kept.state, finite_number(&child.entry.number), id)
 }
 
-/// Puts down the numbers of a split's children, which get these ids, and adds those that are open to the queue. Where there is
+/// Puts down the entries of a split's children, which get these ids, and adds those that are open to the queue. Where there is
 /// no memory the queue stays.
 fn enter_children(
     numbers: &mut LeafNumbers,
     queue: &mut LeafQueue,
     one: u64,
+    left: LeafEntry,
     two: u64,
-    branching: &Branching,
+    right: LeafEntry,
     first: &Option<Candidate>,
     second: &Option<Candidate>,
 ) -> Result<(), AllocError>
     requires apart { one ≢ two }
     requires first { IsNew queue.old first.now }
-    ensures put { OnOk result (HasBoth numbers.new one branching.now.left.number two branching.now.right.number) }
+    ensures put { OnOk result (HasBoth numbers.new one left two right) }
     ensures others { KeepsOtherTwo numbers.old one two numbers.new }
     ensures added { OnOk result (AddsBoth queue.old first.now second.now queue.new) }
     ensures same { OnErr result (IsSameQueue queue.old queue.new) }
 {
-    match numbers.put_both(one, &branching.left.number, two, &branching.right.number) {
+    match numbers.put_both(one, left, two, right) {
         Ok(()) => queue.add_both(first, second),
         Err(error) => Err(error),
     }
 }
 
-/// Splits the leaf with the id, whose children get these ids, puts down their numbers, and adds those that are open to the
-/// queue. The leaf's own number and place in the queue stay. Where there is no memory the tree and the queue do.
+/// Splits the leaf with the id, whose children get these ids, puts down their entries, and adds those that are open to the
+/// queue. The leaf's own entry and place in the queue stay. Where there is no memory the tree and the queue do.
 fn enter_split(
     tree: &mut Tree,
     numbers: &mut LeafNumbers,
@@ -143,7 +149,7 @@ fn enter_split(
     requires second { IsNew queue.old (child_candidate branching.right two) }
     ensures split { OnOk result (tree.new ≡ tree_with_split tree.old id branching.split.col.0 branching.split.v branching.split.mult branching.split.basis branching.left.kept branching.right.kept) }
     ensures room { OnOk result (HasRoom tree.old) }
-    ensures put { OnOk result (HasBoth numbers.new one branching.left.number two branching.right.number) }
+    ensures put { OnOk result (HasBoth numbers.new one branching.left.entry two branching.right.entry) }
     ensures others { KeepsOtherTwo numbers.old one two numbers.new }
     ensures added { OnOk result (AddsBoth queue.old (child_candidate branching.left one) (child_candidate branching.right two) queue.new) }
     ensures kept { OnErr result (tree.new ≡ tree.old) }
@@ -151,8 +157,26 @@ fn enter_split(
 {
     let first = candidate(&branching.left, one);
     let second = candidate(&branching.right, two);
-    match enter_children(numbers, queue, one, two, &branching, &first, &second) {
-        Ok(()) => match split_tree(tree, id, branching) {
+    let Branching { split, left, right } = branching;
+    let Child {
+        kept: left,
+        entry: left_entry,
+    } = left;
+    let Child {
+        kept: right,
+        entry: right_entry,
+    } = right;
+    match enter_children(
+        numbers,
+        queue,
+        one,
+        left_entry,
+        two,
+        right_entry,
+        &first,
+        &second,
+    ) {
+        Ok(()) => match split_tree(tree, id, split, left, right) {
             Ok(()) => Ok(()),
             Err(error) => {
                 queue.take_back(&first, &second);
@@ -160,7 +184,9 @@ fn enter_split(
             }
         },
         Err(error) => {
-            drop(branching);
+            drop(split);
+            drop(left);
+            drop(right);
             Err(error)
         }
     }
@@ -196,22 +222,39 @@ fn tight_region(alloc: Global, region: &Region) -> Result<Region, AllocError>
 
 impl Search {
     /// The child with a path and these lists, judged.
-    fn judged_child(&self, path: Region, mult: Mult, basis: Basis) -> Child
+    fn judged_child(&self, path: Region, mult: Mult, basis: Basis) -> Result<Child, AllocError>
         requires { AreNarrow path }
-        ensures { IsNumberedChild self.now path mult basis result }
+        ensures { IfOk result (IsEnteredChild self.now path mult basis) }
     {
         let farkas = List::new(self.alloc);
-        let number = number_of(&self.model, &self.pool, path.as_slice(), &mult, &farkas);
-        drop(path);
-        let state = state_by(&self.model, &self.target(), &number);
-        Child {
-            kept: LeafData {
-                state,
-                mult,
-                farkas,
-                basis,
-            },
-            number,
+        match entry_of(
+            self.alloc,
+            &self.model,
+            &self.pool,
+            path.as_slice(),
+            &mult,
+            &farkas,
+        ) {
+            Ok(entry) => {
+                drop(path);
+                let state = state_by(&self.model, &self.target(), &entry.number);
+                Ok(Child {
+                    kept: LeafData {
+                        state,
+                        mult,
+                        farkas,
+                        basis,
+                    },
+                    entry,
+                })
+            }
+            Err(error) => {
+                drop(path);
+                drop(mult);
+                drop(farkas);
+                drop(basis);
+                Err(error)
+            }
         }
     }
 
@@ -224,13 +267,13 @@ impl Search {
         basis: &Basis,
     ) -> Result<Child, AllocError>
         requires { AreNarrow (region.now ++ change ∷ []) }
-        ensures { IfOk result (λ child. IsNumberedChild self.now (region.now ++ change ∷ []) mult.now basis.now child) }
+        ensures { IfOk result (λ child. IsEnteredChild self.now (region.now ++ change ∷ []) mult.now basis.now child) }
     {
         let Ok(path) = child_path(self.alloc, region, change) else {
             return Err(AllocError);
         };
         match copy_lists(self.alloc, mult, basis) {
-            Ok((mult, basis)) => Ok(self.judged_child(path, mult, basis)),
+            Ok((mult, basis)) => self.judged_child(path, mult, basis),
             Err(error) => {
                 drop(path);
                 Err(error)
@@ -249,8 +292,8 @@ impl Search {
         requires narrow { AreNarrow region.now }
         requires sound { IsSplitSound (formulation_of self.old) region.now branching.split.col.0 branching.split.v branching.split.mult branching.split.basis }
         requires room { (neg_ℤ (pos largest) ≤ℤ branching.split.v) × (branching.split.v <ℤ pos largest) }
-        requires left { IsNumberedChild self.old (left_path region.now branching.split.col.0 branching.split.v) branching.split.mult branching.split.basis branching.left }
-        requires right { IsNumberedChild self.old (right_path region.now branching.split.col.0 branching.split.v) branching.split.mult branching.split.basis branching.right }
+        requires left { IsEnteredChild self.old (left_path region.now branching.split.col.0 branching.split.v) branching.split.mult branching.split.basis branching.left }
+        requires right { IsEnteredChild self.old (right_path region.now branching.split.col.0 branching.split.v) branching.split.mult branching.split.basis branching.right }
         ensures taken { IfOk result (λ taken. TakesSplit self.old id region.now branching.split.col.0 branching.split.v branching.split.mult branching.split.basis self.new taken) }
         ensures kept { OnErr result (self.new ≡ self.old) }
     {
@@ -301,8 +344,8 @@ impl Search {
     fn children(&self, region: &Region, split: &Split) -> Result<(Child, Child), AllocError>
         requires narrow { AreNarrow region.now }
         requires room { (neg_ℤ (pos largest) ≤ℤ split.now.v) × (split.now.v <ℤ pos largest) }
-        ensures left { IfOk result (λ both. IsNumberedChild self.now (left_path region.now split.now.col.0 split.now.v) split.now.mult split.now.basis both.0) }
-        ensures right { IfOk result (λ both. IsNumberedChild self.now (right_path region.now split.now.col.0 split.now.v) split.now.mult split.now.basis both.1) }
+        ensures left { IfOk result (λ both. IsEnteredChild self.now (left_path region.now split.now.col.0 split.now.v) split.now.mult split.now.basis both.0) }
+        ensures right { IfOk result (λ both. IsEnteredChild self.now (right_path region.now split.now.col.0 split.now.v) split.now.mult split.now.basis both.1) }
     {
         let Ok(left) = self.child(region, split.up_to(), &split.mult, &split.basis) else {
             return Err(AllocError);

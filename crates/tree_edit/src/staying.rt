@@ -1,24 +1,30 @@
 // A search after an edit of its model that leaves the nodes of the tree: none is copied. All that takes memory comes before the
 // first change.
-ghost use Rattle.std.specs.Prelude.{◌≡◌, ◌≤◌, true, length, map, IfOk, OnOk, OnErr};
+ghost use Rattle.std.specs.Prelude.{◌≡◌, ◌+◌, ◌-◌, ◌≤◌, [], true, length, map, IfOk, OnOk, OnErr};
 ghost use Rattle.lp_model.specs.Edits.{edited, EditFits};
-ghost use Rattle.branch_tree.specs.Leaves.{leaf_count};
+ghost use Rattle.lp_model.specs.Formulations.{formulation};
+ghost use Rattle.spared_leaves.specs.Touched.{touched_by};
+ghost use Rattle.branch_tree.specs.Leaves.{leaf_count, region_leaves};
 ghost use Rattle.branch_tree.specs.Changes.{with_leaf_states};
+ghost use Rattle.cover_cuts.specs.Cuts.{IsPoolOf};
 ghost use Rattle.kept_cuts.specs.Kept.{IsPoolAfter};
 ghost use Rattle.search_parts.specs.EditedPoints.{point_after, AreKeepable};
+ghost use Rattle.leaf_judging.specs.Totals.{leaves_steps};
 ghost use Rattle.sound_searches.specs.Edited.{HasParts, Follows};
-ghost use Rattle.tree_edit.specs.private.Staying.{leaves_nodes, IsStayed};
+ghost use Rattle.tree_edit.specs.private.Staying.{leaves_nodes, IsStayCounted, IsStayed};
 
 use crate::search::Search;
 use branch_tree::Tree;
 use cover_cuts::CutPool;
 use frac128::Frac;
 use kept_cuts::pool_after;
+use leaf_dual::Steps;
 use leaf_judging::{Former, Judged, LeafNumbers, LeafQueue, judge_tree};
 use lp_model::{Edit, Model, Point};
 use search_parts::{KeptPoints, kept_points, least_of};
 use spared_leaves::touched_by;
 use std::alloc::AllocError;
+use std::sync::ledger::Ledger;
 
 /// What stands beside a tree whose nodes stay: cuts, points, and the leaves judged.
 #[derive(Drop)]
@@ -70,14 +76,23 @@ fn put_kept(
 }
 
 impl Search {
-    /// What stands beside the tree after an edit that leaves its nodes. A leaf whose number the edit can't change keeps it.
-    fn stayed(&self, model: &Model, edit: &Edit) -> Result<Stayed, AllocError>
+    /// What stands beside the tree after an edit that leaves its nodes. A leaf whose number the edit can't change keeps it, and
+    /// of another one what is kept before the first term that is changed.
+    fn stayed<L: Ledger>(
+        &self,
+        model: &Model,
+        edit: &Edit,
+        steps: &mut Steps<L>,
+    ) -> Result<Stayed, AllocError>
         requires fits { EditFits self.now.model edit.now }
         requires edited { model.now ≡ edited self.now.model edit.now }
         requires leaves { leaves_nodes edit.now ≡ true }
         ensures stayed { IfOk result (IsStayed model.now self.now.tree) }
         ensures pool { IfOk result (λ s. IsPoolAfter self.now.model edit.now self.now.cuts model.now s.pool) }
         ensures points { IfOk result (λ s. AreKeepable model.now (map (point_after self.now.model edit.now) self.now.points) s.kept.points.items) }
+        ensures cuts { IfOk result (λ s. IsPoolOf self.now.model self.now.cuts) }
+        ensures rises { OnOk result (steps.old ≤ steps.new) }
+        ensures steps { IfOk result (λ s. steps.new ≤ steps.old + leaves_steps (touched_by self.now.model edit.now) self.now.cuts (formulation model.now s.pool) (region_leaves [] self.now.tree.root)) }
     {
         let former = Some(Former {
             touched: touched_by(&self.model, edit),
@@ -90,7 +105,9 @@ impl Search {
             Ok(kept) => {
                 let target = least_of(&kept.values);
                 let _few = pool.rows();
-                match judge_tree(self.alloc, model, &pool, &target, &former, &self.tree) {
+                match judge_tree(
+                    self.alloc, model, &pool, &target, &former, &self.tree, steps,
+                ) {
                     Ok(judged) => Ok(Stayed { pool, kept, judged }),
                     Err(error) => {
                         drop(pool);
@@ -128,14 +145,21 @@ impl Search {
     }
 
     /// Goes over to the model after an edit that leaves the nodes of the tree.
-    fn stay(&mut self, model: Model, edit: &Edit) -> Result<(), AllocError>
+    fn stay<L: Ledger>(
+        &mut self,
+        model: Model,
+        edit: &Edit,
+        steps: &mut Steps<L>,
+    ) -> Result<(), AllocError>
         requires fits { EditFits self.old.model edit.now }
         requires edited { model ≡ edited self.old.model edit.now }
         requires leaves { leaves_nodes edit.now ≡ true }
         ensures follows { OnOk result (Follows self.old edit.now self.new) }
         ensures kept { OnErr result (self.new ≡ self.old) }
+        ensures rises { OnOk result (steps.old ≤ steps.new) }
+        ensures steps { OnOk result (IsStayCounted self.old edit.now self.new (steps.new - steps.old)) }
     {
-        match self.stayed(&model, edit) {
+        match self.stayed(&model, edit, steps) {
             Ok(stayed) => {
                 self.put_stayed(model, stayed);
                 Ok(())
@@ -148,16 +172,23 @@ impl Search {
     }
 
     /// Goes over to the model after an edit.
-    pub(crate) fn go_over(&mut self, model: Model, edit: &Edit) -> Result<(), AllocError>
+    pub(crate) fn go_over<L: Ledger>(
+        &mut self,
+        model: Model,
+        edit: &Edit,
+        steps: &mut Steps<L>,
+    ) -> Result<(), AllocError>
         requires fits { EditFits self.old.model edit.now }
         requires edited { model ≡ edited self.old.model edit.now }
         ensures follows { OnOk result (Follows self.old edit.now self.new) }
         ensures kept { OnErr result (self.new ≡ self.old) }
+        ensures rises { OnOk result (steps.old ≤ steps.new) }
+        ensures steps { OnOk result (leaves_nodes edit.now ≡ true → IsStayCounted self.old edit.now self.new (steps.new - steps.old)) }
     {
         if leaves_nodes(edit) {
-            return self.stay(model, edit);
+            return self.stay(model, edit, steps);
         }
-        let search = self.edited_search(model, edit)?;
+        let search = self.edited_search(model, edit, steps)?;
         self.replace_with(search);
         Ok(())
     }

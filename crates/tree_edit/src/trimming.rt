@@ -12,7 +12,7 @@ use crate::search::{Search, put_tree};
 use branch_tree::Tree;
 use cover_cuts::CutPool;
 use frac128::Frac;
-use leaf_judging::{LeafIndex, judge_all};
+use leaf_judging::{LeafIndex, judge_all_unseen};
 use lp_model::Model;
 use std::alloc::{AllocError, Global};
 
@@ -34,7 +34,7 @@ fn trimmed_tree(
         return Err(AllocError);
     };
     tree.trim_depth(depth);
-    match judge_all(alloc, model, pool, target, &mut tree) {
+    match judge_all_unseen(alloc, model, pool, target, &mut tree) {
         Ok(index) => Ok((tree, index)),
         Err(error) => {
             drop(tree);

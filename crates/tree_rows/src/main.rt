@@ -10,6 +10,7 @@
 
 mod begun;
 mod chains;
+mod counting;
 mod searches;
 mod solving;
 mod trees;

@@ -1,4 +1,5 @@
 // What a search answers.
+use crate::counting::count_edit;
 use anyhow::Result;
 use frac128::Frac;
 use lp_model::Model;
@@ -21,6 +22,7 @@ fn answer(
 ) -> Result<()> {
     match word {
         "edit" => edit(alloc, search, words, got)?,
+        "counted" => count_edit(alloc, search, words, got)?,
         "limit" => search.set_limit(take_number(words)?),
         "restart" => search.restart()?,
         "trim" => search.trim(take_number(words)?)?,

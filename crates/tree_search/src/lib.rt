@@ -24,8 +24,8 @@
 //!
 //! Public contract: `search_on` makes exactly the turns that `Goes` says (specs/Turns), and ends or stops as `Ends` says (specs/Search).
 //! Each stop had its cause from the start (`HasCause`), so a search with enough results, nodes, moves and room for its steps
-//! goes to the end. `answer_of` says what that shows: an optimum, that no point is feasible, that the objective has no end,
-//! or a bound that no feasible point beats.
+//! goes to the end. `answer_of` says what that shows: an optimum, a point within the gap, that no point is feasible, that the
+//! objective has no end, or a bound that no feasible point beats.
 //!
 //! What is made of this above is defined here, over searches and models alone: with which relaxations a search begins (specs/Beginnings),
 //! what is done to a fresh one (specs/Solves) and to one that goes on (specs/Warm), what each answer says of the model (specs/Truth),

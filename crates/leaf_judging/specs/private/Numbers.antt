@@ -7,10 +7,10 @@ use Rattle.leaf_judging.specs.declared.judging.Mark.{Mark}
 use Rattle.leaf_judging.specs.Closing.{NumberCloses, StateSays}
 use Rattle.leaf_judging.specs.Choosing.{finite_number}
 use Rattle.leaf_judging.specs.Queued.{candidate_of}
-use Rattle.leaf_judging.specs.Numbers.{kept_number}
+use Rattle.leaf_judging.specs.Numbers.{kept_entry, kept_number}
 
 abbrev pub AreSameNumbers : LeafNumbers → LeafNumbers → Type 0
-AreSameNumbers old new = (i : ℕ) → kept_number new i ≡ kept_number old i
+AreSameNumbers old new = (i : ℕ) → kept_entry new i ≡ kept_entry old i
 
 -- its state by the number that is kept, and the leaf as a candidate where it is open
 pub record IsLeafMark (against : Against) (id : ℕ) (mark : Mark) : Type 0 where

@@ -10,8 +10,9 @@ use Rattle.tree_edit.specs.declared.splitting.Child.{Child}
 use Rattle.leaf_judging.specs.declared.choosing.Candidate.{Candidate}
 use Rattle.frac128.specs.Rational.{ℚ}
 use Rattle.branch_tree.specs.declared.node.LeafData.{LeafData}
-use Rattle.leaf_judging.specs.declared.closing.LeafNumber.{LeafNumber}
-use Rattle.leaf_judging.specs.Closing.{IsNumber, ClosesBy}
+use Rattle.leaf_judging.specs.declared.entry.LeafEntry.{LeafEntry}
+use Rattle.leaf_judging.specs.Closing.{ClosesBy}
+use Rattle.leaf_judging.specs.Totals.{IsEntryOf}
 use Rattle.leaf_judging.specs.Choosing.{finite_number}
 use Rattle.leaf_judging.specs.Queued.{candidate_of}
 use Rattle.search_parts.specs.Points.{IsKeepable, target}
@@ -29,10 +30,10 @@ pub record JoinsPoint (S : PlainSearch) (x : Point) (joined : Joined) : Type 0 w
   pub values_are : joined.values.items ≡ map (least_value S.model 1) (list_without (S.points ++ x ∷ []) joined.worst)
   pub target_is : joined.target ≡ target S.model (list_without (S.points ++ x ∷ []) joined.worst)
 
--- the data fit the model and the cuts, and the leaf closes by them with this number
-pub record ClosesByNumber (F : Formulation) (t : Option ℚ) (path : Path) (kept : LeafData) (number : LeafNumber) : Type 0 where
+-- the data fit the model and the cuts, and the leaf closes by them with this entry
+pub record ClosesByEntry (F : Formulation) (t : Option ℚ) (path : Path) (kept : LeafData) (entry : LeafEntry) : Type 0 where
   pub lists : HasLists F kept
-  pub number_is : IsNumber F path kept.mult kept.farkas number
+  pub entry_is : IsEntryOf F path kept.mult kept.farkas entry
   pub closes : ClosesBy F t path kept
 
 -- what is answered where they do not fit, or the leaf does not close by them
@@ -45,11 +46,11 @@ StaysOpen F t path kept Closed = ⊥
 StaysOpen F t path kept Split = ⊥
 StaysOpen F t path kept Kept = ⊥
 
--- the child is that of this region, and its number is its own
-pub record IsNumberedChild (S : PlainSearch) (path : Path) (mult : Multipliers) (basis : Basis) (child : Child) : Type 0 where
+-- the child is that of this region, and its entry is its own
+pub record IsEnteredChild (S : PlainSearch) (path : Path) (mult : Multipliers) (basis : Basis) (child : Child) : Type 0 where
   pub kept : IsChild S path mult basis child.kept
-  pub number : IsNumber (formulation_of S) path child.kept.mult child.kept.farkas child.number
+  pub entry : IsEntryOf (formulation_of S) path child.kept.mult child.kept.farkas child.entry
 
 -- the child under its id as a candidate, if it is open
 abbrev pub child_candidate : Child → ℕ → Option Candidate
-child_candidate child id = candidate_of child.kept.state (finite_number child.number) id
+child_candidate child id = candidate_of child.kept.state (finite_number child.entry.number) id

@@ -10,11 +10,11 @@ use Rattle.leaf_judging.proofs.NumberLemmas.{numbers-states}
 use Rattle.leaf_judging.proofs.judging.judge_all.Goals as goal
 
 pub set_states-requires : goal.set_states-requires
-set_states-requires c =
+set_states-requires g c =
     subst (λ (ss : List LeafState). leaf_count c.args.tree.now.root ≤ length ss) (sym c.deref.ensures.value) c.in_ok-judged.ensures.states.enough
 
 pub returns-clause-judged : goal.returns-clause-judged
-returns-clause-judged c =
+returns-clause-judged g c =
     let F = formulation c.args.model.now c.args.pool.now in
     let t = c.args.target.now in
     record {
@@ -25,14 +25,14 @@ returns-clause-judged c =
     }
 
 pub returns-clause-numbers : goal.returns-clause-numbers
-returns-clause-numbers c =
+returns-clause-numbers g c =
     let F = formulation c.args.model.now c.args.pool.now in
     let numbers = c.in_ok-judged.judged.index.numbers in
     subst (λ (T : NumberedTree). AreNumbersOf F T.root numbers) (sym c.set_states.ensures)
     (numbers-states F numbers c.deref.result.now c.args.tree.now.root c.in_ok-judged.ensures.numbers)
 
 pub returns-clause-queue : goal.returns-clause-queue
-returns-clause-queue c =
+returns-clause-queue g c =
     let F = formulation c.args.model.now c.args.pool.now in
     let queue = c.in_ok-judged.judged.index.queue in
     subst (λ (T : NumberedTree). IsQueueOf F T.root queue) (sym c.set_states.ensures)

@@ -1,10 +1,10 @@
 use Rattle.leaf_judging.proofs.judging.judge_tree.Goals as goal
 
-pub returns-in-Ok-clause-count : goal.returns-in-Ok-clause-count
-returns-in-Ok-clause-count c = c.in-Ok.ensures.count
+pub returns-in-Ok-judge_again-clause-count : goal.returns-in-Ok-judge_again-clause-count
+returns-in-Ok-judge_again-clause-count g c = c.in-Ok-judge_again.ensures.count
 
-pub returns-in-Ok-clause-states : goal.returns-in-Ok-clause-states
-returns-in-Ok-clause-states c = c.in-Ok.ensures.states c.args.pool.now c.in_ok-numbers.ensures
+pub returns-in-Ok-judge_again-clause-states : goal.returns-in-Ok-judge_again-clause-states
+returns-in-Ok-judge_again-clause-states g c = c.in-Ok-judge_again.ensures.states c.args.pool.now c.in-Ok.ensures.numbers
 
-pub returns-in-Ok-clause-queue : goal.returns-in-Ok-clause-queue
-returns-in-Ok-clause-queue c = c.in-Ok.ensures.queue c.args.pool.now c.in_ok-numbers.ensures
+pub returns-in-Ok-judge_again-clause-queue : goal.returns-in-Ok-judge_again-clause-queue
+returns-in-Ok-judge_again-clause-queue g c = c.in-Ok-judge_again.ensures.queue c.args.pool.now c.in-Ok.ensures.numbers

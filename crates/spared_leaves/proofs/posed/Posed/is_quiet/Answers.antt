@@ -4,8 +4,8 @@ use Rattle.lp_model.specs.Regions.{region_low, region_high}
 use Rattle.leaf_dual.specs.Dual.{needed_side}
 use Rattle.spared_leaves.proofs.posed.Posed.is_quiet.Goals as goal
 
-pub returns-in-Some : goal.returns-in-Some
-returns-in-Some c = λ quiet within.
+pub returns-in-Some-clause-quiet : goal.returns-in-Some-clause-quiet
+returns-in-Some-clause-quiet c = λ quiet within.
     let M = c.args.self.now.model.now in
     let low = region_low M c.args.region.now c.args.col in
     let high = region_high M c.args.region.now c.args.col in

@@ -3,7 +3,7 @@ use Rattle.std.proofs.Common.{sym, subst, ◌++◌, ◌∷◌, []}
 use Rattle.lp_model.specs.Regions.{AreNarrow}
 use Rattle.lp_model.specs.declared.types.BoundChange.{BoundChange}
 use Rattle.sound_searches.specs.Sound.{PlainSearch}
-use Rattle.tree_edit.specs.private.PlacingSteps.{IsNumberedChild}
+use Rattle.tree_edit.specs.private.PlacingSteps.{IsEnteredChild}
 use Rattle.tree_edit.proofs.search.Search.children.Goals as goal
 
 pub child-requires : goal.child-requires
@@ -25,11 +25,11 @@ returns-in-Ok-child-clause-left c =
     let S : PlainSearch = c.args.self.now in
     let path = c.args.region.now in
     let split = c.args.split.now in
-    subst (λ (b : BoundChange). IsNumberedChild S (path ++ b ∷ []) split.mult split.basis c.in-Ok.left) c.up_to.ensures c.in-Ok.ensures
+    subst (λ (b : BoundChange). IsEnteredChild S (path ++ b ∷ []) split.mult split.basis c.in-Ok.left) c.up_to.ensures c.in-Ok.ensures
 
 pub returns-in-Ok-child-clause-right : goal.returns-in-Ok-child-clause-right
 returns-in-Ok-child-clause-right c =
     let S : PlainSearch = c.args.self.now in
     let path = c.args.region.now in
     let split = c.args.split.now in
-    subst (λ (b : BoundChange). IsNumberedChild S (path ++ b ∷ []) split.mult split.basis c.in-Ok-child.right) c.above.ensures c.in-Ok-child.ensures
+    subst (λ (b : BoundChange). IsEnteredChild S (path ++ b ∷ []) split.mult split.basis c.in-Ok-child.right) c.above.ensures c.in-Ok-child.ensures

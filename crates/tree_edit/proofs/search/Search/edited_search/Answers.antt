@@ -15,16 +15,16 @@ use Rattle.tree_edit.proofs.GoneCuts.{follow-sound}
 use Rattle.tree_edit.proofs.search.Search.edited_search.Goals as goal
 
 pub followed-requires-clause-fits : goal.followed-requires-clause-fits
-followed-requires-clause-fits c = c.requires.fits
+followed-requires-clause-fits g c = c.requires.fits
 
 pub followed-requires-clause-edited : goal.followed-requires-clause-edited
-followed-requires-clause-edited c = c.requires.edited
+followed-requires-clause-edited g c = c.requires.edited
 
 pub with_kept-requires-clause-values : goal.with_kept-requires-clause-values
-with_kept-requires-clause-values c = c.in-Ok-kept_points.ensures.values_are
+with_kept-requires-clause-values g c = c.in-Ok-kept_points.ensures.values_are
 
 pub with_kept-requires-clause-tree : goal.with_kept-requires-clause-tree
-with_kept-requires-clause-tree c =
+with_kept-requires-clause-tree g c =
     let i = c.self.inside in
     let e = c.args.edit.now in
     let fits : EditFits i.model e = subst (λ (R : PlainSearch). EditFits R.model e) (sym c.self.view_is) c.requires.fits in
@@ -36,14 +36,14 @@ with_kept-requires-clause-tree c =
     subst (λ P. P) (λ j. IsSoundTree (formulation (sym new j) c.in-Ok.pool) (sym tree j).root) follows
 
 pub with_kept-requires-clause-pool : goal.with_kept-requires-clause-pool
-with_kept-requires-clause-pool c = c.in-Ok.ensures.pool.pool
+with_kept-requires-clause-pool g c = c.in-Ok.ensures.pool.pool
 
 pub with_kept-requires-clause-points : goal.with_kept-requires-clause-points
-with_kept-requires-clause-points c =
+with_kept-requires-clause-points g c =
     keepable-all c.args.model (map (point_after c.self.inside.model c.args.edit.now) c.deref.result.now) c.in-Ok-kept_points.kept.points.items c.in-Ok-kept_points.ensures.keepable
 
 pub with_kept-requires-clause-few : goal.with_kept-requires-clause-few
-with_kept-requires-clause-few c =
+with_kept-requires-clause-few g c =
     let f = point_after c.self.inside.model c.args.edit.now in
     let few = keepable-few c.args.model (map f c.deref.result.now) c.in-Ok-kept_points.kept.points.items c.in-Ok-kept_points.ensures.keepable in
     let long = length-map c.deref.result.now f in
@@ -55,8 +55,8 @@ if_ok : {A E : Type 0} {P Q : A → Type 0} (r : Result A E) → ((a : A) → P 
 if_ok (Ok a) w h = w a h
 if_ok (Err e) w h = h
 
-pub returns-in-Ok-kept_points : goal.returns-in-Ok-kept_points
-returns-in-Ok-kept_points c =
+pub returns-in-Ok-kept_points-clause-follows : goal.returns-in-Ok-kept_points-clause-follows
+returns-in-Ok-kept_points-clause-follows g c =
     let i = c.self.inside in
     let e = c.args.edit.now in
     let S : PlainSearch = c.args.self.now in
@@ -70,4 +70,4 @@ returns-in-Ok-kept_points c =
       cuts = ap derivations_of parts.cuts_are ∙ after.derivations;
       points = subst (λ P. P) (λ j. AreKeepable (sym parts.model j) (map (point_after i.model e) (c.deref.ensures.value j)) (sym parts.points_are j)) kept.ensures.keepable;
       tree = subst (λ P. P) (λ j. JudgesAll (formulation (sym parts.model j) (sym parts.cuts_are j)) (target (sym parts.model j) (sym parts.points_are j)) (tree j) new.tree) parts.tree;
-    })) c.with_kept.ensures
+    })) c.with_kept.ensures.parts

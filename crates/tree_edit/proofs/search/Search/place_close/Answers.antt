@@ -14,8 +14,8 @@ use Rattle.tree_edit.proofs.search.Search.place_close.Goals as goal
 pub put_closed-requires-clause-leaf : goal.put_closed-requires-clause-leaf
 put_closed-requires-clause-leaf c = c.requires.leaf
 
-pub put_closed-requires-clause-number : goal.put_closed-requires-clause-number
-put_closed-requires-clause-number c = c.in-Ok.ensures.closes.number_is
+pub put_closed-requires-clause-entry : goal.put_closed-requires-clause-entry
+put_closed-requires-clause-entry c = c.in-Ok.ensures.closes.entry_is
 
 pub put_closed-requires-clause-lists : goal.put_closed-requires-clause-lists
 put_closed-requires-clause-lists c = c.in-Ok.ensures.closes.lists

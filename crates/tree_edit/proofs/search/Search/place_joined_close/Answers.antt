@@ -10,8 +10,8 @@ use Rattle.tree_edit.proofs.search.Search.place_joined_close.Goals as goal
 pub put_joined_close-requires-clause-leaf : goal.put_joined_close-requires-clause-leaf
 put_joined_close-requires-clause-leaf c = c.requires.leaf
 
-pub put_joined_close-requires-clause-number : goal.put_joined_close-requires-clause-number
-put_joined_close-requires-clause-number c = c.in-Ok.ensures.closes.number_is
+pub put_joined_close-requires-clause-entry : goal.put_joined_close-requires-clause-entry
+put_joined_close-requires-clause-entry c = c.in-Ok.ensures.closes.entry_is
 
 pub put_joined_close-requires-clause-closed : goal.put_joined_close-requires-clause-closed
 put_joined_close-requires-clause-closed c = c.requires.closed

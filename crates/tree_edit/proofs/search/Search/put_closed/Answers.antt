@@ -5,7 +5,8 @@ use Rattle.leaf_judging.specs.Queued.{HasFiniteNumber}
 use Rattle.tree_edit.specs.Indexed.{IsIndexed}
 use Rattle.sound_searches.specs.Placing.{IsAt}
 use Rattle.branch_tree.specs.Changes.{HasLeaf}
-use Rattle.leaf_judging.specs.Closing.{IsNumber, IsJudgedLeaf}
+use Rattle.leaf_judging.specs.Closing.{IsJudgedLeaf}
+use Rattle.leaf_judging.specs.Totals.{IsEntryOf}
 use Rattle.search_parts.specs.Points.{target}
 use Rattle.search_parts.specs.Lists.{HasLists}
 use Rattle.sound_searches.proofs.SoundLemmas.{sound-with_leaf}
@@ -31,7 +32,7 @@ invariant_of-self c =
     let path = c.args.region.now in
     let S : PlainSearch = record { model = i.model; cuts = i.pool; tree = i.tree; points = i.points.items } in
     let at : IsAt id path S.tree.root = subst (λ (T : PlainSearch). IsAt id path T.tree.root) (sym c.self.view_is) c.requires.leaf.at in
-    let number : IsNumber (formulation_of S) path kept.mult kept.farkas c.args.number.now = subst (λ (T : PlainSearch). IsNumber (formulation_of T) path kept.mult kept.farkas c.args.number.now) (sym c.self.view_is) c.requires.number in
+    let entry : IsEntryOf (formulation_of S) path kept.mult kept.farkas c.args.entry = subst (λ (T : PlainSearch). IsEntryOf (formulation_of T) path kept.mult kept.farkas c.args.entry) (sym c.self.view_is) c.requires.entry in
     let lists : HasLists (formulation_of S) kept = subst (λ (T : PlainSearch). HasLists (formulation_of T) kept) (sym c.self.view_is) c.requires.lists in
     let judged : IsJudgedLeaf (formulation_of S) (target S.model S.points) path kept = subst (λ (T : PlainSearch). IsJudgedLeaf (formulation_of T) (target T.model T.points) path kept) (sym c.self.view_is) c.requires.judged in
     let r = c.leaf_number_of-leaf_number.result in
@@ -40,6 +41,6 @@ invariant_of-self c =
     (record {
       sound = sound-with_leaf S id path kept c.self.invariant.sound at lists judged;
       values_are = c.self.invariant.values_are;
-      numbers_are = numbers-put (formulation_of S) S.tree.root i.numbers c.self.invariant.numbers_are id path kept c.args.number.now c.set.new.self at number c.set.ensures;
+      numbers_are = numbers-put (formulation_of S) S.tree.root i.numbers c.self.invariant.numbers_are id path kept c.args.entry c.set.new.self at entry c.set.ensures;
       queue_is = queue-closed (formulation_of S) S.tree.root r id path kept at ranked i.queue c.remove.new.self c.self.invariant.queue_is c.remove.ensures c.requires.closed;
     })

@@ -1,5 +1,6 @@
 use Rattle.std.proofs.Common.{sym, subst}
-use Rattle.leaf_judging.specs.Closing.{ClosesBy, IsNumber}
+use Rattle.leaf_judging.specs.Closing.{ClosesBy}
+use Rattle.leaf_judging.specs.Totals.{IsEntryOf}
 use Rattle.search_parts.specs.Lists.{HasLists}
 use Rattle.sound_searches.specs.Sound.{PlainSearch, formulation_of}
 use Rattle.search_parts.specs.Points.{target}
@@ -14,9 +15,9 @@ put_closed-requires-clause-closed c = c.requires.closed
 pub put_closed-requires-clause-leaf : goal.put_closed-requires-clause-leaf
 put_closed-requires-clause-leaf c = leaf-taken c.args.self.now c.args.point c.take_point.new.self c.args.id c.args.region.now c.in-Ok.ensures.taken c.requires.leaf
 
-pub put_closed-requires-clause-number : goal.put_closed-requires-clause-number
-put_closed-requires-clause-number c =
-    subst (λ P. P) (λ k. IsNumber (formulation (sym c.in-Ok.ensures.taken.model k) (sym c.in-Ok.ensures.taken.cuts k)) c.args.region.now c.args.kept.mult c.args.kept.farkas c.args.number.now) c.requires.number
+pub put_closed-requires-clause-entry : goal.put_closed-requires-clause-entry
+put_closed-requires-clause-entry c =
+    subst (λ P. P) (λ k. IsEntryOf (formulation (sym c.in-Ok.ensures.taken.model k) (sym c.in-Ok.ensures.taken.cuts k)) c.args.region.now c.args.kept.mult c.args.kept.farkas c.args.entry) c.requires.entry
 
 pub put_closed-requires-clause-lists : goal.put_closed-requires-clause-lists
 put_closed-requires-clause-lists c =

@@ -11,7 +11,7 @@ use Rattle.leaf_judging.specs.Numbers.{HasBoth, KeepsOtherTwo, AreNumbersOf}
 use Rattle.sound_searches.specs.Sound.{PlainSearch, formulation_of}
 use Rattle.tree_edit.specs.Indexed.{IsIndexed}
 use Rattle.sound_searches.specs.Placing.{IsAt, IsSplitSound, search_with_split, split_with_leaves}
-use Rattle.tree_edit.specs.private.PlacingSteps.{IsNumberedChild, child_candidate}
+use Rattle.tree_edit.specs.private.PlacingSteps.{IsEnteredChild, child_candidate}
 use Rattle.tree_edit.proofs.SplitLemmas.{kept-split}
 use Rattle.tree_edit.proofs.QueueChanges.{queue-same, other-id, new-candidate, split-queue}
 use Rattle.tree_edit.proofs.SameNumbers.{numbers-fresh, numbers-split}
@@ -36,7 +36,7 @@ enter_split-requires-clause-first c =
     let left = c.args.branching.left in
     let n : IsNumbered T = c.nodes-numbered.ensures.numbered in
     let first : c.in-Some.one ≡ T.last + 1 = ap (λ (p : ℕ × ℕ). p.0) c.in-Some.ensures.1 in
-    new-candidate (formulation i.model i.pool) T n i.queue c.self.invariant.queue_is c.in-Some.one (omega (arith, first)) left.kept.state (finite_number left.number) (child_candidate left c.in-Some.one) refl
+    new-candidate (formulation i.model i.pool) T n i.queue c.self.invariant.queue_is c.in-Some.one (omega (arith, first)) left.kept.state (finite_number left.entry.number) (child_candidate left c.in-Some.one) refl
 
 pub enter_split-requires-clause-second : goal.enter_split-requires-clause-second
 enter_split-requires-clause-second c =
@@ -45,7 +45,7 @@ enter_split-requires-clause-second c =
     let right = c.args.branching.right in
     let n : IsNumbered T = c.nodes-numbered.ensures.numbered in
     let second : c.in-Some.two ≡ T.last + 2 = ap (λ (p : ℕ × ℕ). p.1) c.in-Some.ensures.1 in
-    new-candidate (formulation i.model i.pool) T n i.queue c.self.invariant.queue_is c.in-Some.two (omega (arith, second)) right.kept.state (finite_number right.number) (child_candidate right c.in-Some.two) refl
+    new-candidate (formulation i.model i.pool) T n i.queue c.self.invariant.queue_is c.in-Some.two (omega (arith, second)) right.kept.state (finite_number right.entry.number) (child_candidate right c.in-Some.two) refl
 
 pub invariant_of-self-in-Err : goal.invariant_of-self-in-Err
 invariant_of-self-in-Err c =
@@ -84,22 +84,22 @@ invariant_of-self c =
     let has : HasLeaf T c.args.id = subst (λ (R : PlainSearch). HasLeaf R.tree c.args.id) (sym c.self.view_is) c.requires.leaf.has in
     let at : IsAt c.args.id path S.tree.root = subst (λ (R : PlainSearch). IsAt c.args.id path R.tree.root) (sym c.self.view_is) c.requires.leaf.at in
     let fit : IsSplitSound (formulation_of S) path j v mult basis = subst (λ (R : PlainSearch). IsSplitSound (formulation_of R) path j v mult basis) (sym c.self.view_is) c.requires.sound in
-    let is_left : IsNumberedChild S (left_path path j v) mult basis one = subst (λ (R : PlainSearch). IsNumberedChild R (left_path path j v) mult basis one) (sym c.self.view_is) c.requires.left in
-    let is_right : IsNumberedChild S (right_path path j v) mult basis two = subst (λ (R : PlainSearch). IsNumberedChild R (right_path path j v) mult basis two) (sym c.self.view_is) c.requires.right in
+    let is_left : IsEnteredChild S (left_path path j v) mult basis one = subst (λ (R : PlainSearch). IsEnteredChild R (left_path path j v) mult basis one) (sym c.self.view_is) c.requires.left in
+    let is_right : IsEnteredChild S (right_path path j v) mult basis two = subst (λ (R : PlainSearch). IsEnteredChild R (right_path path j v) mult basis two) (sym c.self.view_is) c.requires.right in
     let r = c.leaf_number_of-own.result in
     let ranked : HasFiniteNumber (formulation_of S) T.root (record { leaf_number = r; id = c.args.id }) = subst (λ (R : PlainSearch). HasFiniteNumber (formulation_of R) R.tree.root (record { leaf_number = r; id = c.args.id })) (sym c.self.view_is) c.leaf_number_of-own.ensures in
     let first : c.in-Some.one ≡ T.last + 1 = ap (λ (p : ℕ × ℕ). p.0) c.in-Some.ensures.1 in
     let second : c.in-Some.two ≡ T.last + 2 = ap (λ (p : ℕ × ℕ). p.1) c.in-Some.ensures.1 in
     let others : KeepsOtherTwo i.numbers (T.last + 1) (T.last + 2) c.enter_split.new.numbers = subst (λ P. P) (λ k. KeepsOtherTwo i.numbers (first k) (second k) c.enter_split.new.numbers) c.enter_split.ensures.others in
-    let both : HasBoth c.enter_split.new.numbers (T.last + 1) one.number (T.last + 2) two.number = subst (λ P. P) (λ k. HasBoth c.enter_split.new.numbers (first k) one.number (second k) two.number) c.in-Ok.ensures.put in
+    let both : HasBoth c.enter_split.new.numbers (T.last + 1) one.entry (T.last + 2) two.entry = subst (λ P. P) (λ k. HasBoth c.enter_split.new.numbers (first k) one.entry (second k) two.entry) c.in-Ok.ensures.put in
     let added : AddsBoth i.queue (child_candidate one (T.last + 1)) (child_candidate two (T.last + 2)) c.enter_split.new.queue = subst (λ P. P) (λ k. AddsBoth i.queue (child_candidate one (first k)) (child_candidate two (second k)) c.enter_split.new.queue) c.in-Ok.ensures.added in
     let numbers : AreNumbersOf (formulation_of S) (replaced c.args.id (split_with_leaves T.last c.args.id j v mult basis left right) T.root) c.remove-in-Ok.new.self =
-    numbers-split (formulation_of S) T.root i.numbers c.enter_split.new.numbers c.remove-in-Ok.new.self T.last c.args.id path j v mult basis left right one.number two.number c.self.invariant.numbers_are at
+    numbers-split (formulation_of S) T.root i.numbers c.enter_split.new.numbers c.remove-in-Ok.new.self T.last c.args.id path j v mult basis left right one.entry two.entry c.self.invariant.numbers_are at
     (omega (arith, n.given (T.last + 1) (omega arith))) (omega (arith, n.given (T.last + 2) (omega arith))) (other-id T n (T.last + 1) c.args.id (omega arith) has) (other-id T n (T.last + 2) c.args.id (omega arith) has)
-    both others c.remove-in-Ok.ensures.others is_left.number is_right.number in
+    both others c.remove-in-Ok.ensures.others is_left.entry is_right.entry in
     let queue : IsQueueOf (formulation_of S) (replaced c.args.id (split_with_leaves T.last c.args.id j v mult basis left right) T.root) c.remove.new.self =
-    split-queue (formulation_of S) T n i.queue c.enter_split.new.queue c.remove.new.self left right (finite_number one.number) (finite_number two.number) (child_candidate one (T.last + 1)) (child_candidate two (T.last + 2)) c.self.invariant.queue_is refl refl added
-    r c.args.id path j v mult basis has at ranked c.remove.ensures (one.number, (is_left.number, refl)) (two.number, (is_right.number, refl)) in
+    split-queue (formulation_of S) T n i.queue c.enter_split.new.queue c.remove.new.self left right (finite_number one.entry.number) (finite_number two.entry.number) (child_candidate one (T.last + 1)) (child_candidate two (T.last + 2)) c.self.invariant.queue_is refl refl added
+    r c.args.id path j v mult basis has at ranked c.remove.ensures (one.entry.number, (is_left.entry.number, refl)) (two.entry.number, (is_right.entry.number, refl)) in
     subst (λ (U : NumberedTree). IsIndexed (record { model = i.model; cuts = i.pool; tree = U; points = i.points.items }) i.values.items c.remove-in-Ok.new.self c.remove.new.self) (sym c.in-Ok.ensures.split)
     (kept-split S i.values.items i.numbers c.remove-in-Ok.new.self i.queue c.remove.new.self c.args.id path j v mult basis left right c.self.invariant at fit low high is_left.kept is_right.kept numbers queue)
 

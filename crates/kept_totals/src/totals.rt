@@ -1,0 +1,138 @@
+// Totals that run and are kept.
+ghost use Rattle.std.specs.Prelude.{◌≡◌, ◌+◌, ◌<◌, ◌≤◌, [], length, pos, IfOk, OnOk, OnErr};
+ghost use Rattle.frac128.specs.Rational.{int, ◌+ℚ◌, ◌*ℚ◌};
+ghost use Rattle.checked_sum.specs.Steps.{StepFits};
+ghost use Rattle.kept_totals.specs.Kept.{with_total, with_kept, IsBackAt, LikeTermsLaw};
+
+use crate::steps::Steps;
+use crate::term::Term;
+use crate::total::Total;
+use frac128::{Frac, Wide};
+use std::alloc::{AllocError, Global};
+use std::marker::Model;
+use std::sync::ledger::Ledger;
+
+/// A running total, and totals that were kept on the way. The memory for those is taken ahead (`new`, `reserve`), so that
+/// going on takes none. Contracts see `RunningTotals`.
+#[derive(Drop)]
+pub struct Totals {
+    total: Total,
+    kept: Vec<Total>,
+    room: usize,
+}
+
+impl Model for Totals {
+    ghost use Rattle.std.specs.Prelude.{◌≤◌, length};
+    ghost use Rattle.std.specs.Vec.{vec_len, vec_capacity};
+    ghost use Rattle.kept_totals.specs.Kept.{RunningTotals, totals_code};
+
+    ghost Value = { RunningTotals };
+
+    ghost coded = { totals_code };
+
+    ghost view = { λ t. record { total = t.total; kept = t.kept.items; room = t.room } };
+
+    ghost invariant = { λ t. (vec_len t.kept ≤ t.room) × (t.room ≤ vec_capacity t.kept) };
+}
+
+impl Totals {
+    /// The total 0, with room to keep so many.
+    pub fn new(alloc: Global, room: usize) -> Result<Totals, AllocError>
+        ensures { IfOk result (λ t. t ≡ record { total = int (pos 0); kept = []; room = room }) }
+    {
+        let kept = Vec::with_capacity(alloc, room)?;
+        Ok(Totals {
+            total: Total::exact(&Frac::whole(0)),
+            kept,
+            room,
+        })
+    }
+
+    /// The total so far.
+    pub fn value(&self) -> Frac
+        ensures { result ≡ self.now.total }
+    {
+        self.total.value()
+    }
+
+    /// How many totals are kept.
+    pub fn count(&self) -> usize
+        ensures { result ≡ length self.now.kept }
+    {
+        self.kept.len()
+    }
+
+    /// Begins anew from a start, and keeps none.
+    pub fn begin(&mut self, start: &Frac)
+        ensures { self.new ≡ record { total = start.now; kept = []; room = self.old.room } }
+    {
+        self.kept.clear();
+        self.total = Total::exact(start);
+    }
+
+    /// Adds a term, and ticks. Where its step has no room the total stays.
+    pub fn add_term<L: Ledger>(&mut self, term: &Term, steps: &mut Steps<L>) -> Result<(), Wide>
+        ensures fits { OnOk result (StepFits self.old.total term.now.factor term.now.number) }
+        ensures wide { OnErr result (¬ StepFits self.old.total term.now.factor term.now.number) }
+        ensures added { OnOk result (self.new ≡ with_total self.old (self.old.total +ℚ term.now.factor *ℚ term.now.number)) }
+        ensures kept { OnErr result (self.new ≡ self.old) }
+        ensures ticks { steps.new ≡ steps.old + 1 }
+    {
+        steps.tick();
+        match self.total.plus(term) {
+            Ok(next) => {
+                self.total = next;
+                Ok(())
+            }
+            Err(wide) => Err(wide),
+        }
+    }
+
+    /// Keeps the total.
+    pub fn keep(&mut self)
+        requires { length self.old.kept < self.old.room }
+        ensures { self.new ≡ with_kept self.old }
+    {
+        self.kept.push_reserved(self.total.same());
+    }
+
+    /// Goes back to a total that is kept, which takes no step.
+    pub fn back_to(&mut self, place: usize)
+        requires { place < length self.old.kept }
+        ensures { IsBackAt self.old place self.new }
+    {
+        self.total = self.kept[place].same();
+        self.kept.truncate(place + 1);
+    }
+
+    /// The same totals once more, with the same room.
+    pub fn copy(&self, alloc: Global) -> Result<Totals, AllocError>
+        ensures { IfOk result (λ t. t ≡ self.now) }
+    {
+        let mut kept = Vec::with_capacity(alloc, self.room)?;
+        for place in 0..self.kept.len() {
+            kept.push_reserved(self.kept[place].same());
+        }
+        Ok(Totals {
+            total: self.total.same(),
+            kept,
+            room: self.room,
+        })
+    }
+
+    /// Makes room to keep so many. What is kept stays, and after want of memory all stays.
+    pub fn reserve(&mut self, room: usize) -> Result<(), AllocError>
+        requires { self.old.room ≤ room }
+        ensures room { OnOk result (self.new ≡ record { total = self.old.total; kept = self.old.kept; room = room }) }
+        ensures kept { OnErr result (self.new ≡ self.old) }
+    {
+        self.kept.reserve(room - self.kept.len())?;
+        self.room = room;
+        Ok(())
+    }
+}
+
+/// Sums whose terms are alike as far as a place have the same total there.
+pub fn like_terms_law()
+    ensures { LikeTermsLaw }
+{}

@@ -1,0 +1,4 @@
+pub mod EndLemmas
+pub mod KeptLemmas
+pub mod BackLemmas
+pub mod CostLemmas
