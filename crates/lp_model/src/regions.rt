@@ -5,6 +5,7 @@ ghost use Rattle.frac128.specs.Rational.{int, floor, ceil, min_ℚ, max_ℚ};
 ghost use Rattle.frac128.specs.Range.{IsNarrow};
 ghost use Rattle.lp_model.specs.Program.{lower, upper, is_integer};
 ghost use Rattle.lp_model.specs.Regions.{AreNarrow, tighter_low, tighter_high, low_after, high_after, low_along, high_along, region_low, region_high, IsCrossed, IsEmptyRegion};
+ghost use Rattle.lp_model.specs.private.EmptyRegions.{IsEmptyColumn, IsEmptyWhereNamed};
 
 use crate::model::Model;
 use crate::types::{Bound, BoundChange, Col, Side};
@@ -93,13 +94,35 @@ pub fn is_crossed(low: &Bound, high: &Bound) -> bool
     }
 }
 
+/// The least integer that is at least the number: itself where it is one.
+fn integer_above(number: &Frac) -> Frac
+    ensures { result ≡ int (ceil number.now) }
+{
+    if number.is_whole() {
+        *number
+    } else {
+        Frac::of_whole(number.ceil())
+    }
+}
+
+/// The greatest integer that is at most the number: itself where it is one.
+fn integer_below(number: &Frac) -> Frac
+    ensures { result ≡ int (floor number.now) }
+{
+    if number.is_whole() {
+        *number
+    } else {
+        Frac::of_whole(number.floor())
+    }
+}
+
 impl Col {
     /// The lower bound, for an integer column the least whole number allowed.
     fn least(&self) -> Bound
         ensures { result ≡ (if self.now.int then option_map (λ l. int (ceil l)) self.now.lo else self.now.lo) }
     {
         match &self.lo {
-            Some(low) if self.int => Some(Frac::of_whole(low.ceil())),
+            Some(low) if self.int => Some(integer_above(low)),
             _ => self.lo,
         }
     }
@@ -109,7 +132,7 @@ impl Col {
         ensures { result ≡ (if self.now.int then option_map (λ h. int (floor h)) self.now.up else self.now.up) }
     {
         match &self.up {
-            Some(high) if self.int => Some(Frac::of_whole(high.floor())),
+            Some(high) if self.int => Some(integer_below(high)),
             _ => self.up,
         }
     }
@@ -134,8 +157,23 @@ impl Model {
         high_along(region, col, self.cols()[col].greatest())
     }
 
-    /// Whether a column has no number in a region.
-    pub fn is_empty_region(&self, region: &[BoundChange]) -> bool
+    /// Whether a column is there and has no number in a region.
+    fn is_empty_column(&self, region: &[BoundChange], col: usize) -> bool
+        requires { AreNarrow region.now }
+        ensures { IsTrue result ↔ IsEmptyColumn self.now region.now col }
+    {
+        if col < self.cols().len() {
+            is_crossed(
+                &self.region_low(region, col),
+                &self.region_high(region, col),
+            )
+        } else {
+            false
+        }
+    }
+
+    /// Whether a column has no number in a region, by the bounds of each column.
+    fn has_empty_column(&self, region: &[BoundChange]) -> bool
         requires { AreNarrow region.now }
         ensures { IsTrue result ↔ IsEmptyRegion self.now region.now }
     {
@@ -148,5 +186,31 @@ impl Model {
             }
         }
         false
+    }
+
+    /// Whether a column that a region names has no number in it.
+    fn is_empty_where_named(&self, region: &[BoundChange]) -> bool
+        requires { AreNarrow region.now }
+        ensures { IsTrue result ↔ IsEmptyWhereNamed self.now region.now }
+    {
+        for change in region {
+            if self.is_empty_column(region, change.col.0 as usize) {
+                return true;
+            }
+        }
+        false
+    }
+
+    /// Whether a column has no number in a region. A short region is looked at where it names a column: elsewhere the columns' own
+    /// bounds stand.
+    pub fn is_empty_region(&self, region: &[BoundChange]) -> bool
+        requires { AreNarrow region.now }
+        ensures { IsTrue result ↔ IsEmptyRegion self.now region.now }
+    {
+        if region.len() < self.cols().len() {
+            self.has_empty_column(&[]) || self.is_empty_where_named(region)
+        } else {
+            self.has_empty_column(region)
+        }
     }
 }

@@ -1,0 +1,2 @@
+-- What contracts of private functions alone cite: no caller has to read it.
+pub mod EmptyRegions
