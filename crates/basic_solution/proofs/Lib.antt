@@ -5,6 +5,7 @@ pub mod TurnedLemmas
 pub mod TermLemmas
 pub mod CutTotalLemmas
 pub mod StandingLemmas
+pub mod PricedLemmas
 pub mod SideLemmas
 pub mod PartLemmas
 pub mod ExchangeLemmas

@@ -4,6 +4,7 @@ pub mod Numbers
 pub mod RowTotals
 pub mod CutTotals
 pub mod Standing
+pub mod Priced
 pub mod Exchanges
 pub mod Slack
 pub mod Lists

@@ -33,6 +33,7 @@ mod numbers;
 mod parts;
 mod point;
 mod priced;
+mod priced_rows;
 mod row_totals;
 mod sided;
 mod sides;
@@ -41,5 +42,6 @@ mod standing;
 mod total_sides;
 mod written;
 
+pub use priced_rows::PricedRows;
 pub use sided::SidedBasis;
 pub use sides::signed;

@@ -119,6 +119,9 @@ fn first_cut_out(
 {
     let _sided = state.columns();
     let end = state.variables();
+    if end <= start {
+        return Ok(None);
+    }
     let mut totals = [0_i64; MOST_TOTALS];
     let denominator = write_totals(state, end - start, &mut totals);
     for cut in start..end {

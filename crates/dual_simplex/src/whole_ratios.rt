@@ -5,9 +5,10 @@ ghost use Rattle.frac128.specs.Rational.{int, ◌<ℚ◌};
 ghost use Rattle.frac128.specs.LowestTerms.{quotient_of};
 ghost use Rattle.table_entries.specs.WholeSteps.{IsShort};
 ghost use Rattle.basic_solution.specs.Held.{table};
+ghost use Rattle.basic_solution.specs.Priced.{ArePriced};
 ghost use Rattle.dual_simplex.specs.private.WholeRatios.{IsShortRatio, IsWholeRatio};
 
-use basic_solution::SidedBasis;
+use basic_solution::{PricedRows, SidedBasis};
 use table_entries::{Stand, by_sign};
 use whole_sums::{product, short_number};
 
@@ -27,23 +28,26 @@ fn turned(number: i64) -> i64
     -number
 }
 
-/// The first part of the ratio of a place, where it can be had without a division. None says nothing of it.
+/// The first part of the ratio of a place, where it can be had without a division, by the rows whose basic variable has a cost where
+/// these are listed. None says nothing of it.
 pub(crate) fn whole_ratio(
     state: &SidedBasis<'_>,
     row: usize,
     side: Stand,
     place: usize,
+    priced: &PricedRows<'_>,
 ) -> Option<WholeRatio>
     requires row { row < state.now.tableau.activities }
     requires place { place < state.now.tableau.columns }
     requires some { (table state.now).entry row place ≢ int (pos 0) }
+    requires priced { IfSome priced.now.count (λ n. ArePriced state.now priced.now.rows.now priced.now.numbers.now n) }
     ensures { IfSome result (λ r. IsWholeRatio state.now row side place r.top r.bottom) }
 {
     let denominator = state.denominator();
     let Some(entry) = state.number_over(row, place, denominator) else {
         return None;
     };
-    let Some(total) = state.cost_total(place, denominator) else {
+    let Some(total) = state.cost_total_by(place, denominator, priced) else {
         return None;
     };
     let Some(cost) = short_number(total) else {

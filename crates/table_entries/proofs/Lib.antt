@@ -24,6 +24,7 @@ pub mod ReadLemmas
 pub mod WholeLemmas
 pub mod WayLemmas
 pub mod WholeListLemmas
+pub mod NextEntryLemmas
 pub mod ListedLemmas
 pub mod RowLemmas
 pub mod LeftLemmas

@@ -184,18 +184,20 @@ pub new_listed : (b : Bool) (ns : List ℤ) (fs : List ℚ) → (b ≡ true → 
 new_listed true ns fs size whole items = numerators_over ns fs (size refl) whole items
 new_listed false ns fs size whole items = refl
 
-one_short : IsShort (pos 1)
+pub one_short : IsShort (pos 1)
 one_short = omega arith
 
-pub new_stored : (b : Bool) (ns spare_ns : List ℤ) (fs spare : List ℚ) (room : ℕ) → (b ≡ true → length ns ≡ length fs) → ((at : ℕ) → at < length ns → IsShortWhole (get_or fs at (int (pos 0))))
-    → ((at : ℕ) → at < length ns → whole_number_at ns at ≡ (get_or fs at (int (pos 0))).num) → spare_ns ≡ ns → length spare ≤ length fs → length fs ≤ room → IsStored b (pos 1) ns spare_ns fs spare room
-new_stored b ns spare_ns fs spare room size whole items same within has_room =
+pub new_stored : (b : Bool) (ns spare_ns : List ℤ) (fs : List ℚ) (first_room : ℕ) (spare : List ℚ) (room : ℕ) → (b ≡ true → length ns ≡ length fs) → ((at : ℕ) → at < length ns → IsShortWhole (get_or fs at (int (pos 0))))
+    → ((at : ℕ) → at < length ns → whole_number_at ns at ≡ (get_or fs at (int (pos 0))).num) → spare_ns ≡ ns → length spare ≤ length fs → length fs ≤ first_room → length fs ≤ room → IsStored b (pos 1) ns spare_ns fs first_room spare room
+new_stored b ns spare_ns fs first_room spare room size whole items same within first has_room =
     let short : AreShort ns = λ at q. subst IsShort (sym (items at q)) (whole at q).short in
     record {
       spare_length = within;
       spare_room = has_room;
-      numbers_length = size;
-      spare_numbers_length = λ e. ap length same ∙ size e;
+      fractions_length = λ e. let all = size e in omega (arith, all);
+      fractions_room = λ e. let all = size e in omega (arith, all, first);
+      numbers_room = λ e. let all = size e in omega (arith, all, has_room);
+      spare_numbers_length = λ e. ap length same;
       over_one = λ e. record { positive = omega (arith, ints); denominator_short = one_short; short = short };
       spare_short = λ e. subst AreShort (sym same) short;
     }

@@ -1,5 +1,5 @@
 -- The ways of rows: what the numbers of a row after an exchange are divided and multiplied by.
-use Rattle.std.specs.Prelude.{◌≡◌, ◌≢◌, ◌-◌, [], ◌∷◌, ◌<ℤ◌, ℤ, pos, ◌-ℤ◌, ◌*ℤ◌, unsigned_abs, true, false}
+use Rattle.std.specs.Prelude.{◌≡◌, ◌≢◌, ◌-◌, [], ◌∷◌, ◌<ℤ◌, ℤ, pos, ◌-ℤ◌, ◌*ℤ◌, unsigned_abs, Bool, true, false}
 use Rattle.std.proofs.Common.{refl, sym, ap, subst, ◌∙◌, arith}
 use Rattle.std.proofs.lemmas.Int.{ints}
 use Rattle.frac128.specs.Rational.{ℚ, den}
@@ -9,7 +9,7 @@ use Rattle.frac128.specs.RationalOrder.{product_positive}
 use Rattle.frac128.specs.LowestTerms.{quotient_of}
 use Rattle.frac128.proofs.Terms.{denominator_is}
 use Rattle.table_entries.specs.WholeSteps.{IsShort, magnitude, by_sign}
-use Rattle.table_entries.specs.private.Ways.{IsRatio, IsWay}
+use Rattle.table_entries.specs.private.Ways.{IsRatio, IsWay, divided}
 use Rattle.table_entries.proofs.WholeLemmas.{by_sign-short, magnitude_positive, signed_ratio}
 
 -- x is the number by the denominator
@@ -126,3 +126,11 @@ no_number e q m x u none = zero e q m u ∙ ap (λ t. (e *ℤ q -ℤ m *ℤ t) *
   where
     zero : (e q m u : ℤ) → e *ℤ q *ℤ u ≡ (e *ℤ q -ℤ m *ℤ pos 0) *ℤ u
     zero e q m u = ring_ℤ (e ∷ q ∷ m ∷ u ∷ []) {x = e *ℤ q *ℤ u} {y = (e *ℤ q -ℤ m *ℤ pos 0) *ℤ u} (search reads_ℤ depth 9) (search reads_ℤ depth 9) tt
+
+-- from an entry of a row that is scaled nothing is taken, and in the entering place it is 0
+pub scaled_divided : (b : Bool) (D m q x e u n v : ℤ) → m ≡ pos 0 → (b ≡ true → e ≡ pos 0) → n *ℤ v ≡ e *ℤ q *ℤ u → n *ℤ v ≡ divided b D m q x e *ℤ u
+scaled_divided true D m q x e u n v none nothing h = h ∙ ap (λ t. t *ℤ q *ℤ u) (nothing refl) ∙ zero D q u ∙ ap (λ t. t *ℤ D *ℤ u) (sym none)
+  where
+    zero : (d q u : ℤ) → pos 0 *ℤ q *ℤ u ≡ pos 0 *ℤ d *ℤ u
+    zero d q u = ring_ℤ (d ∷ q ∷ u ∷ []) {x = pos 0 *ℤ q *ℤ u} {y = pos 0 *ℤ d *ℤ u} (search reads_ℤ depth 9) (search reads_ℤ depth 9) tt
+scaled_divided false D m q x e u n v none nothing h = h ∙ no_factor e q m x u none

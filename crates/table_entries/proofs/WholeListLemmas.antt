@@ -16,7 +16,7 @@ module _ (n r s : ℕ) (d after : ℤ) (numbers : List ℤ) (unwritten : List Bo
   at_place : (i * n + k) % n ≡ k
   at_place = mod-mul-add i n k k_within
 
-  whole_here : IsWholeStep (i == r) (k == s) d' after' pivot in_row in_place entry w → WholeAt n r s d after numbers w (i * n + k)
+  pub whole_here : IsWholeStep (i == r) (k == s) d' after' pivot in_row in_place entry w → WholeAt n r s d after numbers w (i * n + k)
   whole_here h =
       let row_here : in_row ≡ whole_number_at numbers (r * n + (i * n + k) % n) = row_is ∙ ap (λ t. whole_number_at numbers (r * n + t)) (sym at_place) in
       let place_here : in_place ≡ whole_number_at numbers ((i * n + k) / n * n + s) = place_is ∙ ap (λ t. whole_number_at numbers (t * n + s)) (sym at_row) in

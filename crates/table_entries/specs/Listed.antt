@@ -29,12 +29,14 @@ pub record IsListed (v : Listed) : Type 0 where
   pub are_over : AreOver v.denominator v.numbers
   pub list : v.list ≡ over v.denominator v.numbers
 
--- the lists behind the entries: fractions have their lists where the numbers are in use, too, of which the second one has room
-pub record IsStored (is_whole : Bool) (denominator : ℤ) (numbers spare_numbers : List ℤ) (fractions spare : List ℚ) (room : ℕ) : Type 0 where
+-- the lists behind the entries: where the numbers are in use, those of the fractions have room for as many
+pub record IsStored (is_whole : Bool) (denominator : ℤ) (numbers spare_numbers : List ℤ) (fractions : List ℚ) (first_room : ℕ) (spare : List ℚ) (room : ℕ) : Type 0 where
   pub spare_length : length spare ≤ length fractions
   pub spare_room : length fractions ≤ room
-  pub numbers_length : is_whole ≡ true → length numbers ≡ length fractions
-  pub spare_numbers_length : is_whole ≡ true → length spare_numbers ≡ length fractions
+  pub fractions_length : is_whole ≡ true → length fractions ≤ length numbers
+  pub fractions_room : is_whole ≡ true → length numbers ≤ first_room
+  pub numbers_room : is_whole ≡ true → length numbers ≤ room
+  pub spare_numbers_length : is_whole ≡ true → length spare_numbers ≡ length numbers
   pub over_one : is_whole ≡ true → AreOver denominator numbers
   pub spare_short : is_whole ≡ true → AreShort spare_numbers
 

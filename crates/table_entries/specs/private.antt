@@ -5,3 +5,4 @@ pub mod Parts
 pub mod Steps
 pub mod LeftRows
 pub mod Ways
+pub mod NextEntries

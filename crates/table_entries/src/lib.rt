@@ -59,7 +59,7 @@
 //!
 //! Public contract: after `exchange` each entry is the one above and each step to it has room, or the first that has none
 //! is named and no entry changes.
-//! Memory is taken by `PartEntries::new` alone. What the rows and places stand for is not known where the entries are
+//! Memory is taken by `PartEntries::new` and `of_numbers` alone. What the rows and places stand for is not known where the entries are
 //! exchanged. Below stand `frac128`, for the numbers and which steps have room, `checked_sum`, for the sums, and `whole_sums`, for
 //! whole numbers over one denominator; above, `row_tableau`.
 #![tactic(auto)]
@@ -69,6 +69,8 @@ mod entries;
 mod laws;
 mod parts;
 mod rows;
+mod same_rows;
+mod scaled_rows;
 mod stand;
 mod table_entries;
 mod wholes;
@@ -81,4 +83,5 @@ pub use laws::{
 };
 pub use parts::PartEntries;
 pub use stand::Stand;
+pub use table_entries::short_whole;
 pub use wholes::by_sign;

@@ -8,10 +8,10 @@ ghost use Rattle.frac128.specs.Rational.{int};
 ghost use Rattle.frac128.specs.LowestTerms.{quotient_of};
 ghost use Rattle.table_entries.specs.FlatSteps.{dense_entry};
 ghost use Rattle.table_entries.specs.FlatSteps.{FlatFits};
-ghost use Rattle.table_entries.specs.WholeSteps.{IsShort, IsShortOver, magnitude, whole_number_at, is_unwritten, AreWithin};
-ghost use Rattle.table_entries.specs.Listed.{IsListed, IsExchangedList};
+ghost use Rattle.table_entries.specs.WholeSteps.{IsShort, AreShort, IsShortOver, magnitude, whole_number_at, is_unwritten, AreWithin};
+ghost use Rattle.table_entries.specs.Listed.{over, IsListed, IsExchangedList};
 ghost use Rattle.table_entries.specs.Parts.{Parts, IsParted, IsSwap, AreColumnsWritten, any_entry, filled, row_coefficient, swapped, weight};
-ghost use Rattle.table_entries.specs.private.Parts.{IsLight, IsRowTouched, IsRowFormed, IsFront, slot_number, unwritten_number};
+ghost use Rattle.table_entries.specs.private.Parts.{IsLight, IsRowTouched, IsRowFormed, IsSummedRow, slot_number, unwritten_number};
 
 use crate::entries::flat_index;
 use crate::table_entries::{TableEntries, fraction, is_nothing};
@@ -179,9 +179,9 @@ fn add_column(
     requires slots { columns ≤ length slots.now }
     requires light { IsLight rows columns entries.old coefficients.now (λ j. get_or slots.now j 0) row }
     requires apart { (j : ℕ) → j < columns → get_or slots.now j 0 ≢ row }
-    requires before { IsFront rows columns entries.old coefficients.now (λ j. get_or slots.now j 0) row column entries.old.numbers }
+    requires before { IsSummedRow rows columns entries.old coefficients.now (λ j. get_or slots.now j 0) row column entries.old.numbers }
     ensures touched { IsRowTouched columns row entries.old entries.new }
-    ensures added { IsFront rows columns entries.old coefficients.now (λ j. get_or slots.now j 0) row (column + 1) entries.new.numbers }
+    ensures added { IsSummedRow rows columns entries.old coefficients.now (λ j. get_or slots.now j 0) row (column + 1) entries.new.numbers }
 {
     let coefficient = coefficients[flat_index(rows, columns, row, column)];
     if coefficient == 0 {
@@ -361,6 +361,33 @@ impl PartEntries {
         ensures filled { IfOk result (λ v. (slots : ℕ → ℕ) → ((j : ℕ) → j < columns → slots j ≡ rows + j) → filled v slots ≡ fractions.items) }
     {
         let entries = match TableEntries::new(alloc, fractions) {
+            Ok(entries) => entries,
+            Err(error) => return Err(error),
+        };
+        if first < rows {
+            if entries.is_whole() {
+                return partly_written(alloc, rows, columns, first, entries);
+            }
+        }
+        all_written(alloc, rows, columns, entries)
+    }
+
+    /// The entries of a slack table, which these numbers are, as `new`.
+    pub fn of_numbers(
+        alloc: Global,
+        rows: usize,
+        columns: usize,
+        first: usize,
+        numbers: Vec<i64>,
+    ) -> Result<PartEntries, AllocError>
+        requires size { length numbers.items ≡ rows * columns }
+        requires room { rows * columns < 2 ^ 64 }
+        requires short { AreShort numbers.items }
+        ensures rows { IfOk result (λ v. v.rows ≡ rows) }
+        ensures columns { IfOk result (λ v. v.columns ≡ columns) }
+        ensures filled { IfOk result (λ v. (slots : ℕ → ℕ) → ((j : ℕ) → j < columns → slots j ≡ rows + j) → filled v slots ≡ over (pos 1) numbers.items) }
+    {
+        let entries = match TableEntries::of_numbers(alloc, numbers) {
             Ok(entries) => entries,
             Err(error) => return Err(error),
         };

@@ -3,15 +3,15 @@ ghost use Rattle.std.specs.Prelude.{◌≡◌, ◌≢◌, ◌↔◌, ◌<◌, �
 ghost use Rattle.frac128.specs.Rational.{int};
 ghost use Rattle.frac128.specs.LowestTerms.{quotient_of};
 ghost use Rattle.table_entries.specs.FlatSteps.{FlatFits};
-ghost use Rattle.table_entries.specs.WholeSteps.{IsShort, AreWithin, magnitude, whole_number_at};
+ghost use Rattle.table_entries.specs.WholeSteps.{IsShort, AreShort, AreWithin, magnitude, whole_number_at};
 ghost use Rattle.table_entries.specs.Listed.{Listed, listed_costs, over, AreOver, IsListed, IsStored, IsShortWhole, IsExchangedList};
 ghost use Rattle.table_entries.specs.private.Listed.{ArePartsExchanged};
 
 use crate::denominators::denominator_after;
 use crate::entries::{exchange_entries, flat_index};
-use crate::wholes::{
-    MOST_MARKS, are_within, is_below, mark_left, may_stay, take_rows, write_wholes,
-};
+use crate::same_rows::write_over_same;
+use crate::scaled_rows::write_wholes;
+use crate::wholes::{MOST_MARKS, are_within, is_below, mark_left, may_stay, take_rows};
 use frac128::Frac;
 use std::alloc::{AllocError, Global};
 use whole_sums::SHORT_LIMIT;
@@ -19,8 +19,8 @@ use whole_sums::SHORT_LIMIT;
 /// The entries of a table, row by row. While all are short whole numbers over one denominator, they are kept so: an
 /// exchange then divides without a greatest common divisor, and no step of it is without room. Where that ends, the
 /// entries are fractions from then on. Each list has a second one that takes the entries after an exchange, and the
-/// fractions' lists have their room from the start, so an exchange takes no memory. The second one of these is filled at the
-/// first exchange of fractions: most tables never come to one.
+/// fractions' lists have their room from the start, so an exchange takes no memory. They are filled where the entries become
+/// fractions, and the second one at the first exchange of these: most tables never come to that.
 #[derive(Drop)]
 pub struct TableEntries {
     is_whole: bool,
@@ -36,7 +36,7 @@ impl std::marker::Model for TableEntries {
 
     ghost view = { λ t. record { is_whole = t.is_whole; list = listed_costs t.is_whole t.denominator t.numbers.items t.fractions.items; denominator = t.denominator; numbers = t.numbers.items } };
 
-    ghost invariant = { λ t. IsStored t.is_whole t.denominator t.numbers.items t.spare_numbers.items t.fractions.items t.spare.items (vec_capacity t.spare) };
+    ghost invariant = { λ t. IsStored t.is_whole t.denominator t.numbers.items t.spare_numbers.items t.fractions.items (vec_capacity t.fractions) t.spare.items (vec_capacity t.spare) };
 }
 
 /// Whether the fraction is a short whole number. Most entries are 0.
@@ -50,6 +50,18 @@ pub fn is_short_whole(fraction: &Frac) -> bool
     fraction.is_whole()
         && i128::from(-SHORT_LIMIT) < numerator
         && numerator < i128::from(SHORT_LIMIT)
+}
+
+/// The short whole number that the fraction is, if it is one.
+pub fn short_whole(fraction: &Frac) -> Option<i64>
+    ensures short { IfSome result (λ n. IsShort n) }
+    ensures value { IfSome result (λ n. fraction.now ≡ quotient_of n (pos 1)) }
+{
+    if is_short_whole(fraction) {
+        Some(fraction.numerator() as i64)
+    } else {
+        None
+    }
 }
 
 /// The numbers that the fractions are, up to the first one that is no short whole number.
@@ -150,6 +162,47 @@ impl TableEntries {
         };
         Ok(TableEntries {
             is_whole,
+            denominator: 1,
+            numbers,
+            spare_numbers,
+            fractions,
+            spare,
+        })
+    }
+
+    /// The entries that these numbers are.
+    pub(crate) fn of_numbers(alloc: Global, numbers: Vec<i64>) -> Result<TableEntries, AllocError>
+        requires short { AreShort numbers.items }
+        ensures list { IfOk result (λ t. t.list ≡ over (pos 1) numbers.items) }
+        ensures denominator { IfOk result (λ t. t.denominator ≡ pos 1) }
+    {
+        let count = numbers.len();
+        let spare_numbers = match Vec::from_slice(alloc, &numbers) {
+            Ok(spare_numbers) => spare_numbers,
+            Err(error) => {
+                drop(numbers);
+                return Err(error);
+            }
+        };
+        let fractions = match Vec::with_capacity(alloc, count) {
+            Ok(fractions) => fractions,
+            Err(error) => {
+                drop(spare_numbers);
+                drop(numbers);
+                return Err(error);
+            }
+        };
+        let spare = match Vec::with_capacity(alloc, count) {
+            Ok(spare) => spare,
+            Err(error) => {
+                drop(fractions);
+                drop(spare_numbers);
+                drop(numbers);
+                return Err(error);
+            }
+        };
+        Ok(TableEntries {
+            is_whole: true,
             denominator: 1,
             numbers,
             spare_numbers,
@@ -280,12 +333,11 @@ impl TableEntries {
             unwritten,
             &mut left,
         );
-        if !write_wholes(
+        if !write_over_same(
             rows,
             columns,
             row,
             place,
-            self.denominator,
             self.denominator,
             &self.numbers,
             &left,
@@ -476,6 +528,8 @@ impl TableEntries {
         ensures list { self.new.list ≡ self.old.list }
         ensures form { self.new.is_whole ≡ false }
     {
+        let count = self.numbers.len();
+        fill(&mut self.fractions, count);
         write_fractions(self.denominator, &self.numbers, &mut self.fractions);
         self.is_whole = false;
     }

@@ -28,7 +28,7 @@ pub struct Inverse {
 
 impl Inverse {
     /// The inverse of a denominator.
-    fn of(denominator: i64) -> Inverse
+    pub fn of(denominator: i64) -> Inverse
         requires { pos 0 <ℤ denominator }
     {
         let shift = denominator.trailing_zeros();
@@ -49,7 +49,7 @@ impl Inverse {
 }
 
 /// The quotient, if the division is exact and it is short.
-#[inline]
+#[inline(always)]
 fn exact_quotient(number: i128, divisor: i64, inverse: &Inverse) -> Option<i64>
     requires divisor { IsShort divisor }
     ensures product { IfSome result (λ q. q *ℤ divisor ≡ number) }
@@ -95,10 +95,10 @@ fn lowest(number: i64, denominator: i64) -> Option<Ratio>
 /// multiplier`, and in the entering place `factor * denominator / divisor * multiplier`.
 #[derive(Clone, Copy)]
 pub struct Way {
-    factor: i64,
-    scale: i64,
-    divisor: i64,
-    multiplier: i64,
+    pub factor: i64,
+    pub scale: i64,
+    pub divisor: i64,
+    pub multiplier: i64,
 }
 
 /// The way of the leaving row.
@@ -191,7 +191,7 @@ fn lowest_way(denominator: i64, after: i64, pivot: i64, in_place: i64) -> Option
 }
 
 /// The way of a row in the exchange of a pivot from a denominator to another one, if there is one.
-fn way_of(is_row: bool, denominator: i64, after: i64, pivot: i64, in_place: i64) -> Option<Way>
+pub fn way_of(is_row: bool, denominator: i64, after: i64, pivot: i64, in_place: i64) -> Option<Way>
     requires some { pivot ≢ pos 0 }
     requires positive { pos 0 <ℤ denominator }
     requires denominator { IsShort denominator }
@@ -211,7 +211,7 @@ fn way_of(is_row: bool, denominator: i64, after: i64, pivot: i64, in_place: i64)
 
 /// Whether an entry from which nothing is taken keeps its number: it is 0, or scaled by 1.
 #[inline]
-fn is_scaled_by_one(way: &Way, entry: i64) -> bool
+pub fn is_scaled_by_one(way: &Way, entry: i64) -> bool
     ensures { IsTrue result → entry *ℤ way.now.divisor ≡ entry *ℤ way.now.scale *ℤ way.now.multiplier }
 {
     if entry == 0 {
@@ -241,8 +241,8 @@ fn is_kept(way: &Way, in_row: i64, entry: i64) -> bool
 }
 
 /// The total divided and multiplied, if the division is exact and the number is short.
-#[inline]
-fn scaled(total: i128, way: &Way, inverse: &Inverse) -> Option<i64>
+#[inline(always)]
+pub fn scaled(total: i128, way: &Way, inverse: &Inverse) -> Option<i64>
     requires divisor { IsShort way.now.divisor }
     requires multiplier { IsShort way.now.multiplier }
     ensures short { IfSome result (λ n. IsShort n) }
@@ -259,7 +259,7 @@ fn scaled(total: i128, way: &Way, inverse: &Inverse) -> Option<i64>
 
 /// The number of an entry after the exchange, by the numbers of the entry of the leaving row and of the entry before. None where a
 /// division is not exact, or where the number is not short.
-#[inline]
+#[inline(always)]
 pub fn exchanged_number(
     is_place: bool,
     denominator: i64,
@@ -312,7 +312,7 @@ pub fn is_unwritten(unwritten: &[bool], row: usize) -> bool
 
 /// Writes the numbers of one row after the exchange behind those of the rows before it, unless the row is not written. False
 /// where one can't be had.
-fn write_whole_row(
+pub fn write_whole_row(
     rows: usize,
     columns: usize,
     row: usize,
@@ -362,52 +362,6 @@ fn write_whole_row(
         ) {
             Some(number) => next[at] = number,
             None => return false,
-        }
-    }
-    true
-}
-
-/// Writes the numbers after the exchange, over a denominator, into `next`, those of rows that are not written left out. False where
-/// one can't be had.
-pub fn write_wholes(
-    rows: usize,
-    columns: usize,
-    row: usize,
-    place: usize,
-    denominator: i64,
-    after: i64,
-    numbers: &[i64],
-    unwritten: &[bool],
-    next: &mut [i64],
-) -> bool
-    requires row { row < rows }
-    requires place { place < columns }
-    requires size { length numbers.now ≡ rows * columns }
-    requires room { length next.old ≡ rows * columns }
-    requires positive { pos 0 <ℤ denominator }
-    requires denominator { IsShort denominator }
-    requires after_positive { pos 0 <ℤ after }
-    requires after { IsShort after }
-    requires short { AreShort numbers.now }
-    requires next { AreShort next.old }
-    requires some { whole_number_at numbers.now (row * columns + place) ≢ pos 0 }
-    ensures written { IsTrue result → AreWritten columns row place denominator after numbers.now unwritten.now next.new (rows * columns) }
-    ensures short { AreShort next.new }
-{
-    for at_row in 0..rows {
-        if !write_whole_row(
-            rows,
-            columns,
-            row,
-            place,
-            denominator,
-            after,
-            numbers,
-            unwritten,
-            at_row,
-            next,
-        ) {
-            return false;
         }
     }
     true
@@ -463,7 +417,7 @@ pub fn mark_left(
 }
 
 /// Copies a row.
-fn take_row(rows: usize, columns: usize, row: usize, next: &[i64], numbers: &mut [i64])
+pub fn take_row(rows: usize, columns: usize, row: usize, next: &[i64], numbers: &mut [i64])
     requires row { row < rows }
     requires size { length numbers.old ≡ rows * columns }
     requires next { length next.now ≡ rows * columns }
@@ -473,10 +427,9 @@ fn take_row(rows: usize, columns: usize, row: usize, next: &[i64], numbers: &mut
     ensures others { (i k : ℕ) → i ≢ row → k < columns → whole_number_at numbers.new (i * columns + k) ≡ whole_number_at numbers.old (i * columns + k) }
     ensures short { AreShort numbers.new }
 {
-    for place in 0..columns {
-        let at = flat_index(rows, columns, row, place);
-        numbers[at] = next[at];
-    }
+    let start = row * columns;
+    let end = start + columns;
+    numbers[start..end].copy_from_slice(&next[start..end]);
 }
 
 /// Copies the rows that are not left alone.

@@ -42,6 +42,6 @@ pub record IsRowFormed (rows columns : ℕ) (coefficients : List ℤ) (slots : �
   pub written : (k : ℕ) → k < columns → whole_number_at new.numbers (row * columns + k) ≡ unwritten_number rows columns old coefficients slots row k
 
 -- the numbers of the row are the sums of the terms of so many columns
-abbrev pub IsFront : ℕ → ℕ → Listed → List ℤ → (ℕ → ℕ) → ℕ → ℕ → List ℤ → Type 0
-IsFront rows columns entries coefficients slots row column numbers =
+abbrev pub IsSummedRow : ℕ → ℕ → Listed → List ℤ → (ℕ → ℕ) → ℕ → ℕ → List ℤ → Type 0
+IsSummedRow rows columns entries coefficients slots row column numbers =
     (k : ℕ) → k < columns → whole_number_at numbers (row * columns + k) ≡ combined (row_coefficient columns coefficients row) (λ j. slot_number rows columns entries (slots j) k) column

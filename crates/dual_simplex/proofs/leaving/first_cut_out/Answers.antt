@@ -22,3 +22,8 @@ pub returns : goal.returns
 returns c =
     all_inside c.args.state.now c.columns-sided.ensures.sided c.loop-cut.cut
     (let past = c.loop-cut-test.false in let e = c.variables-end.ensures in let past_all : variables c.args.state.now ≤ c.loop-cut.cut = omega (arith, past, e) in past_all) c.loop-cut.invariant
+
+pub returns-then-end-start : goal.returns-then-end-start
+returns-then-end-start c =
+    all_inside c.args.state.now c.columns-sided.ensures.sided c.args.start
+    (let none = c.if-end-start.true in let e = c.variables-end.ensures in let past_all : variables c.args.state.now ≤ c.args.start = omega (arith, none, e) in past_all) c.requires.inside

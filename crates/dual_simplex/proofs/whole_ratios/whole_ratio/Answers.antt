@@ -18,11 +18,11 @@ returns-in-Low c =
     let d = c.denominator-denominator.result in
     let d' = to_z w64 (of_z w64 d) in
     let entry = c.in-Some.entry in
-    let total = c.in-Some-cost_total.total in
+    let total = c.in-Some-cost_total_by.total in
     let cost = c.in-Some-short_number.cost in
     let d_is : d' ≡ d = short_read d c.denominator-denominator.ensures.short in
     let positive : pos 0 <ℤ d' = subst (λ y. pos 0 <ℤ y) (sym d_is) c.denominator-denominator.ensures.positive in
-    let margin : HasMargin total = c.in-Some-cost_total.ensures.margin in
+    let margin : HasMargin total = c.in-Some-cost_total_by.ensures.margin in
     let t_is : to_z w128 (of_z w128 total) ≡ total = product_read total margin in
     let cost_is : cost ≡ total = c.in-Some-short_number.ensures.value ∙ t_is in
     let entry_short : IsShort entry = c.in-Some.ensures.short in
@@ -32,7 +32,7 @@ returns-in-Low c =
     let over_short : IsShort c.by_sign-over.result = subst IsShort (sym over_is) (by_sign-short entry cost cost_short) in
     let bottom_short : IsShort c.by_sign-bottom.result = subst IsShort (sym bottom_is) ((let short : IsShort (magnitude entry) = entry_short in short)) in
     low_ratio now c.args.row c.args.place d' entry cost positive entry_short cost_short c.in-Some.ensures.value c.requires.some
-    (subst (λ t. IsCostTotal now c.args.place d' t) (sym cost_is) c.in-Some-cost_total.ensures) c.args.side c.in-Low.is _ _ (short_read _ over_short ∙ over_is) (short_read _ bottom_short ∙ bottom_is)
+    (subst (λ t. IsCostTotal now c.args.place d' t) (sym cost_is) c.in-Some-cost_total_by.ensures) c.args.side c.in-Low.is _ _ (short_read _ over_short ∙ over_is) (short_read _ bottom_short ∙ bottom_is)
 
 pub returns-in-High : goal.returns-in-High
 returns-in-High c =
@@ -40,11 +40,11 @@ returns-in-High c =
     let d = c.denominator-denominator.result in
     let d' = to_z w64 (of_z w64 d) in
     let entry = c.in-Some.entry in
-    let total = c.in-Some-cost_total.total in
+    let total = c.in-Some-cost_total_by.total in
     let cost = c.in-Some-short_number.cost in
     let d_is : d' ≡ d = short_read d c.denominator-denominator.ensures.short in
     let positive : pos 0 <ℤ d' = subst (λ y. pos 0 <ℤ y) (sym d_is) c.denominator-denominator.ensures.positive in
-    let margin : HasMargin total = c.in-Some-cost_total.ensures.margin in
+    let margin : HasMargin total = c.in-Some-cost_total_by.ensures.margin in
     let t_is : to_z w128 (of_z w128 total) ≡ total = product_read total margin in
     let cost_is : cost ≡ total = c.in-Some-short_number.ensures.value ∙ t_is in
     let entry_short : IsShort entry = c.in-Some.ensures.short in
@@ -56,13 +56,13 @@ returns-in-High c =
     let top_is : c.turned-top.result ≡ pos 0 -ℤ by_sign entry cost = c.turned-top.ensures ∙ (λ i. pos 0 -ℤ (short_read _ over_short ∙ over_is) i) in
     let top_short : IsShort c.turned-top.result = subst IsShort (sym top_is) (negative_short (by_sign entry cost) (by_sign-short entry cost cost_short)) in
     high_ratio now c.args.row c.args.place d' entry cost positive entry_short cost_short c.in-Some.ensures.value c.requires.some
-    (subst (λ t. IsCostTotal now c.args.place d' t) (sym cost_is) c.in-Some-cost_total.ensures) c.args.side c.in-High.is _ _ (short_read _ top_short ∙ top_is) (short_read _ bottom_short ∙ bottom_is)
+    (subst (λ t. IsCostTotal now c.args.place d' t) (sym cost_is) c.in-Some-cost_total_by.ensures) c.args.side c.in-High.is _ _ (short_read _ top_short ∙ top_is) (short_read _ bottom_short ∙ bottom_is)
 
-pub cost_total-requires-clause-positive : goal.cost_total-requires-clause-positive
-cost_total-requires-clause-positive c = positive_again c.denominator-denominator.result c.denominator-denominator.ensures.short c.denominator-denominator.ensures.positive
+pub cost_total_by-requires-clause-positive : goal.cost_total_by-requires-clause-positive
+cost_total_by-requires-clause-positive c = positive_again c.denominator-denominator.result c.denominator-denominator.ensures.short c.denominator-denominator.ensures.positive
 
-pub cost_total-requires-clause-denominator : goal.cost_total-requires-clause-denominator
-cost_total-requires-clause-denominator c = short_again c.denominator-denominator.result c.denominator-denominator.ensures.short
+pub cost_total_by-requires-clause-denominator : goal.cost_total_by-requires-clause-denominator
+cost_total_by-requires-clause-denominator c = short_again c.denominator-denominator.result c.denominator-denominator.ensures.short
 
 pub by_sign-over-requires : goal.by_sign-over-requires
 by_sign-over-requires c = short_again c.in-Some-short_number.cost c.in-Some-short_number.ensures.short

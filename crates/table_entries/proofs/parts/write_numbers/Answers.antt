@@ -1,5 +1,5 @@
 use Rattle.std.proofs.Common.{◌≡◌, ◌≤◌, ◌+◌, ◌∙◌, sym, subst, arith, get_or}
-use Rattle.table_entries.specs.private.Parts.{IsFront}
+use Rattle.table_entries.specs.private.Parts.{IsSummedRow}
 use Rattle.table_entries.proofs.PartRows.{light_still, front_still, touched_both}
 use Rattle.table_entries.proofs.parts.write_numbers.Goals as goal
 
@@ -50,5 +50,5 @@ returns c =
     let all : j ≡ a.columns = (let past = c.loop-column-test.false in let most = c.loop-column.auto.column-end in omega (arith, past, most)) in
     record {
       touched = c.loop-column.invariant.touched;
-      written = subst (λ n. IsFront a.rows a.columns a.entries.now a.coefficients.now (λ j. get_or a.slots.now j 0) a.row n c.loop-column.entries.numbers) all c.loop-column.invariant.front;
+      written = subst (λ n. IsSummedRow a.rows a.columns a.entries.now a.coefficients.now (λ j. get_or a.slots.now j 0) a.row n c.loop-column.entries.numbers) all c.loop-column.invariant.front;
     }

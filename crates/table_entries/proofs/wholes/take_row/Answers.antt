@@ -1,24 +1,62 @@
-use Rattle.std.proofs.Common.{◌≡◌, ◌<◌, ◌+◌, ◌*◌, ◌∙◌, ap, arith, length, to_z, of_z, w64}
+use Rattle.std.proofs.Common.{rules, ◌≡◌, ◌<◌, ◌≤◌, ◌+◌, ◌-◌, ◌*◌, ◌∙◌, ℕ, ℤ, List, length, sym, subst, ⊎_elim, arith}
+use Rattle.std.proofs.lemmas.Bool.{cases_lt}
+use Rattle.std.proofs.lemmas.List.{places}
+use Rattle.std.proofs.Math.Nat.{mul-le-mul_right}
+use borrow.Rule.Slice.PartMut.{put_mid}
 use Rattle.table_entries.specs.WholeSteps.{IsShort, whole_number_at}
-use Rattle.table_entries.proofs.ReadLemmas.{short_read, short_again}
-use Rattle.table_entries.proofs.WholeListLemmas.{short_more}
-use Rattle.table_entries.proofs.LeftLemmas.{number_taken, numbers_stay}
 use Rattle.table_entries.proofs.wholes.take_row.Goals as goal
 
-pub loop-place-preserved : goal.loop-place-preserved
-loop-place-preserved c =
+put_below : (a k : ℕ) (xs ys : List ℤ) (at : ℕ) → at < a → a ≤ length xs → whole_number_at (put_mid a k xs ys) at ≡ whole_number_at xs at
+put_below a k xs ys at below within = search (rules, places)
+
+put_above : (a k : ℕ) (xs ys : List ℤ) (at : ℕ) → a + k ≤ at → a + k ≤ length xs → length ys ≡ k → whole_number_at (put_mid a k xs ys) at ≡ whole_number_at xs at
+put_above a k xs ys at past within size = search (rules, places)
+
+put_inside : (a k : ℕ) (xs ys : List ℤ) (at : ℕ) → a ≤ at → at < a + k → a ≤ length xs → length ys ≡ k → whole_number_at (put_mid a k xs ys) at ≡ whole_number_at ys (at - a)
+put_inside a k xs ys at past below within size = search (rules, places)
+
+pub returns-clause-others : goal.returns-clause-others
+returns-clause-others c = λ i k other k_within.
     let a = c.args in
-    let n = a.columns in
-    let next = a.next.now in
-    let k = c.loop-place.place in
-    let at = c.flat_index-at.result in
-    let inside : at < length next = let w = c.flat_index-at.ensures.within in let e = c.requires.next in omega (arith, w, e) in
-    let room : at < length c.loop-place.numbers = let w = c.flat_index-at.ensures.within in let e = c.loop-place.auto.numbers in let v = c.requires.size in omega (arith, w, e, v) in
-    let short : IsShort (whole_number_at next at) = c.requires.next_short at inside in
-    let x = to_z w64 (of_z w64 (whole_number_at next at)) in
-    let x_is : x ≡ whole_number_at next (a.row * n + k) = short_read (whole_number_at next at) short ∙ ap (whole_number_at next) c.flat_index-at.ensures.value in
-    record {
-      taken = number_taken n a.row c.loop-place.numbers next at k c.loop-place-test.true c.flat_index-at.ensures.value room x x_is c.loop-place.invariant.taken;
-      others = numbers_stay n a.row c.loop-place.numbers next at k c.loop-place-test.true c.flat_index-at.ensures.value room x x_is a.numbers.now c.loop-place.invariant.others;
-      short = short_more c.loop-place.numbers at x (short_again (whole_number_at next at) short) c.loop-place.invariant.short;
-    }
+    let S = a.row * a.columns in
+    let ys = c.copy_from_slice.new.self in
+    let n = S + a.columns - S in
+    let row_within = c.requires.row in
+    let end : (a.row + 1) * a.columns ≤ a.rows * a.columns = mul-le-mul_right a.columns (omega (arith, row_within)) in
+    let size = c.requires.size in
+    let within : S + n ≤ length a.numbers.now = omega (arith, end, size) in
+    let long : length ys ≡ n = search (rules, places) in
+    ⊎_elim
+    (λ before.
+    let up : (i + 1) * a.columns ≤ S = mul-le-mul_right a.columns (omega (arith, before)) in
+    put_below S n a.numbers.now ys (i * a.columns + k) (omega (arith, up, k_within)) (omega (arith, within)))
+    (λ behind.
+    let up : (a.row + 1) * a.columns ≤ i * a.columns = mul-le-mul_right a.columns (omega (arith, behind, other)) in
+    put_above S n a.numbers.now ys (i * a.columns + k) (omega (arith, up)) within long)
+    (cases_lt i a.row)
+
+pub returns-clause-short : goal.returns-clause-short
+returns-clause-short c = λ at less.
+    let a = c.args in
+    let S = a.row * a.columns in
+    let xs = a.numbers.now in
+    let ys = c.copy_from_slice.new.self in
+    let n = S + a.columns - S in
+    let row_within = c.requires.row in
+    let end : (a.row + 1) * a.columns ≤ a.rows * a.columns = mul-le-mul_right a.columns (omega (arith, row_within)) in
+    let size = c.requires.size in
+    let next_size = c.requires.next in
+    let within : S + n ≤ length xs = omega (arith, end, size) in
+    let long : length ys ≡ n = search (rules, places) in
+    let all : length (put_mid S n xs ys) ≡ length xs = search (rules, places) in
+    let inside : at < length xs = omega (arith, less, all) in
+    ⊎_elim
+    (λ before. subst IsShort (sym (put_below S n xs ys at before (omega (arith, within)))) (c.requires.short at inside))
+    (λ behind.
+    ⊎_elim
+    (λ mid.
+    let here : whole_number_at ys (at - S) ≡ whole_number_at a.next.now at = search (rules, places) in
+    subst IsShort (sym (put_inside S n xs ys at (omega (arith, behind)) mid (omega (arith, within)) long ∙ here)) (c.requires.next_short at (omega (arith, inside, size, next_size))))
+    (λ past. subst IsShort (sym (put_above S n xs ys at (omega (arith, past)) within long)) (c.requires.short at inside))
+    (cases_lt at (S + n)))
+    (cases_lt at S)

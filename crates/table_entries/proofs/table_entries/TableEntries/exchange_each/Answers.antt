@@ -1,4 +1,4 @@
-use Rattle.std.proofs.Common.{sym, ap, subst, subst₂, ◌∙◌, arith, ◌≡◌, ◌≢◌, ◌<ℤ◌, ◌+◌, ◌*◌, length, get_or, pos, to_z, of_z, w64}
+use Rattle.std.proofs.Common.{◌≤◌, vec_capacity, sym, ap, subst, subst₂, ◌∙◌, arith, ◌≡◌, ◌≢◌, ◌<ℤ◌, ◌+◌, ◌*◌, length, get_or, pos, to_z, of_z, w64}
 use mathlib.Core.Path.{subst₃}
 use Rattle.std.proofs.lemmas.Int.{ints}
 use Rattle.std.proofs.lemmas.List.{with_items_is}
@@ -25,7 +25,7 @@ write_wholes-requires-clause-room c =
     let v = c.args.self.now in
     let form = whole_form self.is_whole self.denominator numbers self.fractions.items v c.self.view_is c.requires.whole in
     let size : length numbers ≡ c.args.rows * c.args.columns = whole_size self.is_whole self.denominator numbers self.fractions.items v c.self.view_is c.requires.whole ∙ c.requires.size in
-    ap length c.deref_mut.ensures.value ∙ c.self.invariant.spare_numbers_length form ∙ sym (c.self.invariant.numbers_length form) ∙ size
+    ap length c.deref_mut.ensures.value ∙ c.self.invariant.spare_numbers_length form ∙ size
 
 pub write_wholes-requires-clause-positive : goal.write_wholes-requires-clause-positive
 write_wholes-requires-clause-positive c =
@@ -80,7 +80,7 @@ are_within-requires-clause-size c =
     let size : length numbers ≡ c.args.rows * c.args.columns = whole_size self.is_whole self.denominator numbers self.fractions.items v c.self.view_is c.requires.whole ∙ c.requires.size in
     let kept = c.write_wholes.auto.next ∙ c.deref_mut.ensures.len in
     ap length (c.deref-2.ensures.value ∙ with_items_is self.spare_numbers c.write_wholes.new.next kept)
-    ∙ c.write_wholes.auto.next ∙ ap length c.deref_mut.ensures.value ∙ c.self.invariant.spare_numbers_length form ∙ sym (c.self.invariant.numbers_length form) ∙ size
+    ∙ c.write_wholes.auto.next ∙ ap length c.deref_mut.ensures.value ∙ c.self.invariant.spare_numbers_length form ∙ size
 
 pub are_within-requires-clause-short : goal.are_within-requires-clause-short
 are_within-requires-clause-short c =
@@ -98,7 +98,9 @@ invariant_of-self c =
     record {
       spare_length = shape.spare_length;
       spare_room = shape.spare_room;
-      numbers_length = shape.numbers_length;
+      fractions_length = shape.fractions_length;
+      fractions_room = shape.fractions_room;
+      numbers_room = shape.numbers_room;
       spare_numbers_length = λ e. ap length new_is ∙ c.write_wholes.auto.next ∙ ap length c.deref_mut.ensures.value ∙ shape.spare_numbers_length e;
       over_one = shape.over_one;
       spare_short = λ e. subst AreShort (sym new_is) c.write_wholes.ensures.short;
@@ -114,7 +116,9 @@ invariant_of-self-then-not-are_within c =
     record {
       spare_length = shape.spare_length;
       spare_room = shape.spare_room;
-      numbers_length = shape.numbers_length;
+      fractions_length = shape.fractions_length;
+      fractions_room = shape.fractions_room;
+      numbers_room = shape.numbers_room;
       spare_numbers_length = λ e. ap length new_is ∙ c.write_wholes.auto.next ∙ ap length c.deref_mut.ensures.value ∙ shape.spare_numbers_length e;
       over_one = shape.over_one;
       spare_short = λ e. subst AreShort (sym new_is) c.write_wholes.ensures.short;
@@ -132,12 +136,15 @@ invariant_of-self-2 c =
     let next = c.write_wholes.new.next in
     let kept : length next ≡ self.spare_numbers.len = c.write_wholes.auto.next ∙ c.deref_mut.ensures.len in
     let new_is : c.swap.new.x.items ≡ next = ap (λ v. v.items) c.swap.ensures.x_after ∙ with_items_is self.spare_numbers next kept in
-    let next_size : length next ≡ length self.fractions.items = c.write_wholes.auto.next ∙ ap length c.deref_mut.ensures.value ∙ shape.spare_numbers_length form in
+    let next_size : length next ≡ length numbers = c.write_wholes.auto.next ∙ ap length c.deref_mut.ensures.value ∙ shape.spare_numbers_length form in
+    let size : length c.swap.new.x.items ≡ length numbers = ap length new_is ∙ next_size in
     record {
       spare_length = shape.spare_length;
       spare_room = shape.spare_room;
-      numbers_length = λ e. ap length new_is ∙ next_size;
-      spare_numbers_length = λ e. ap (λ v. length v.items) c.swap.ensures.y_after ∙ shape.numbers_length form;
+      fractions_length = λ e. subst (λ n. length self.fractions.items ≤ n) (sym size) (shape.fractions_length form);
+      fractions_room = λ e. subst (λ n. n ≤ vec_capacity self.fractions) (sym size) (shape.fractions_room form);
+      numbers_room = λ e. subst (λ n. n ≤ vec_capacity self.spare) (sym size) (shape.numbers_room form);
+      spare_numbers_length = λ e. ap (λ v. length v.items) c.swap.ensures.y_after ∙ sym size;
       over_one = λ e. subst₂ AreOver (sym after_is) (sym new_is) (record { positive = c.requires.after_positive; denominator_short = c.requires.after; short = c.write_wholes.ensures.short });
       spare_short = λ e. subst AreShort (sym (ap (λ v. v.items) c.swap.ensures.y_after)) are.short;
     }
@@ -158,8 +165,8 @@ returns-clause-done c = λ t.
     let next = c.write_wholes.new.next in
     let kept : length next ≡ self.spare_numbers.len = c.write_wholes.auto.next ∙ c.deref_mut.ensures.len in
     let new_is : c.swap.new.x.items ≡ next = ap (λ v. v.items) c.swap.ensures.x_after ∙ with_items_is self.spare_numbers next kept in
-    let next_size : length next ≡ length self.fractions.items = c.write_wholes.auto.next ∙ ap length c.deref_mut.ensures.value ∙ shape.spare_numbers_length form in
-    let next_full : length next ≡ a.rows * a.columns = next_size ∙ sym (shape.numbers_length form) ∙ size in
+    let next_size : length next ≡ length numbers = c.write_wholes.auto.next ∙ ap length c.deref_mut.ensures.value ∙ shape.spare_numbers_length form in
+    let next_full : length next ≡ a.rows * a.columns = next_size ∙ size in
     let written : AreWritten a.columns a.row a.place self.denominator a.after numbers a.unwritten.now next (a.rows * a.columns) =
     subst₃ (λ d g xs. AreWritten a.columns a.row a.place d g xs a.unwritten.now next (a.rows * a.columns)) d_is after_is c.deref.ensures.value (c.write_wholes.ensures.written c.if-not-write_wholes.false) in
     let limit_is : to_z w64 (of_z w64 a.limit) ≡ a.limit = let range = c.ranges.limit in omega (arith, ints, range) in

@@ -1,5 +1,6 @@
 use Rattle.std.proofs.Common.{sym, ap, subst, ◌∙◌, arith, ◌≡◌, ◌<◌, ◌+◌, ◌*◌, ℕ, length, get_or, pos, false, Result, Ok, Err}
 use Rattle.std.specs.Prelude.{OnOk, IfErr}
+use Rattle.std.proofs.lemmas.Bool.{false≢true}
 use Rattle.std.proofs.lemmas.List.{with_items_is}
 use Rattle.std.proofs.lemmas.Result.{on_err_weaker}
 use Rattle.frac128.specs.Rational.{int}
@@ -62,6 +63,7 @@ pub invariant_of-self : goal.invariant_of-self
 invariant_of-self c =
     let self = c.self.inside in
     let shape = c.self.invariant in
+    let form : self.is_whole ≡ false = ap (λ w. w.is_whole) c.self.view_is ∙ c.requires.form in
     let new_is = with_items_is self.fractions c.exchange_entries.new.entries (c.exchange_entries.auto.entries ∙ c.deref_mut.ensures.len) in
     let spare_is = with_items_is c.fill.new.fractions c.exchange_entries.new.next (c.exchange_entries.auto.next ∙ c.deref_mut-2.ensures.len) in
     let size = ap length new_is ∙ c.exchange_entries.auto.entries ∙ ap length c.deref_mut.ensures.value in
@@ -72,8 +74,10 @@ invariant_of-self c =
     record {
       spare_length = omega (arith, size, spare_size, count, all);
       spare_room = omega (arith, size, room, count, all);
-      numbers_length = λ e. shape.numbers_length e ∙ sym size;
-      spare_numbers_length = λ e. shape.spare_numbers_length e ∙ sym size;
+      fractions_length = λ e. absurd (false≢true (sym form ∙ e));
+      fractions_room = λ e. absurd (false≢true (sym form ∙ e));
+      numbers_room = λ e. absurd (false≢true (sym form ∙ e));
+      spare_numbers_length = shape.spare_numbers_length;
       over_one = shape.over_one;
       spare_short = shape.spare_short;
     }

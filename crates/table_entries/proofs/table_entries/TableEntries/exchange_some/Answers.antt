@@ -1,4 +1,4 @@
-use Rattle.std.proofs.Common.{refl, sym, ap, subst, subst₂, ◌∙◌, arith, ◌≡◌, ◌≢◌, ◌<◌, ◌<ℤ◌, ◌+◌, ◌*◌, length, get_or, pos, to_z, of_z, w64, ℕ, true, false}
+use Rattle.std.proofs.Common.{◌≤◌, vec_capacity, refl, sym, ap, subst, subst₂, ◌∙◌, arith, ◌≡◌, ◌≢◌, ◌<◌, ◌<ℤ◌, ◌+◌, ◌*◌, length, get_or, pos, to_z, of_z, w64, ℕ, true, false}
 use Rattle.std.proofs.lemmas.Int.{ints}
 use Rattle.std.proofs.lemmas.List.{with_items_is}
 use Rattle.frac128.specs.Rational.{int}
@@ -18,25 +18,25 @@ mark_left-requires-clause-size c =
     let size : length numbers ≡ c.args.rows * c.args.columns = whole_size self.is_whole self.denominator numbers self.fractions.items v c.self.view_is c.requires.whole ∙ c.requires.size in
     ap length c.deref.ensures.value ∙ size
 
-pub write_wholes-requires-clause-size : goal.write_wholes-requires-clause-size
-write_wholes-requires-clause-size c =
+pub write_over_same-requires-clause-size : goal.write_over_same-requires-clause-size
+write_over_same-requires-clause-size c =
     let self = c.self.inside in
     let numbers = self.numbers.items in
     let v = c.args.self.now in
     let size : length numbers ≡ c.args.rows * c.args.columns = whole_size self.is_whole self.denominator numbers self.fractions.items v c.self.view_is c.requires.whole ∙ c.requires.size in
     ap length c.deref-2.ensures.value ∙ size
 
-pub write_wholes-requires-clause-room : goal.write_wholes-requires-clause-room
-write_wholes-requires-clause-room c =
+pub write_over_same-requires-clause-room : goal.write_over_same-requires-clause-room
+write_over_same-requires-clause-room c =
     let self = c.self.inside in
     let numbers = self.numbers.items in
     let v = c.args.self.now in
     let form = whole_form self.is_whole self.denominator numbers self.fractions.items v c.self.view_is c.requires.whole in
     let size : length numbers ≡ c.args.rows * c.args.columns = whole_size self.is_whole self.denominator numbers self.fractions.items v c.self.view_is c.requires.whole ∙ c.requires.size in
-    ap length c.deref_mut.ensures.value ∙ c.self.invariant.spare_numbers_length form ∙ sym (c.self.invariant.numbers_length form) ∙ size
+    ap length c.deref_mut.ensures.value ∙ c.self.invariant.spare_numbers_length form ∙ size
 
-pub write_wholes-requires-clause-positive : goal.write_wholes-requires-clause-positive
-write_wholes-requires-clause-positive c =
+pub write_over_same-requires-clause-positive : goal.write_over_same-requires-clause-positive
+write_over_same-requires-clause-positive c =
     let self = c.self.inside in
     let numbers = self.numbers.items in
     let v = c.args.self.now in
@@ -44,32 +44,32 @@ write_wholes-requires-clause-positive c =
     let are = c.self.invariant.over_one form in
     positive_again self.denominator are.denominator_short are.positive
 
-pub write_wholes-requires-clause-denominator : goal.write_wholes-requires-clause-denominator
-write_wholes-requires-clause-denominator c =
+pub write_over_same-requires-clause-denominator : goal.write_over_same-requires-clause-denominator
+write_over_same-requires-clause-denominator c =
     let self = c.self.inside in
     let numbers = self.numbers.items in
     let v = c.args.self.now in
     let form = whole_form self.is_whole self.denominator numbers self.fractions.items v c.self.view_is c.requires.whole in
     short_again self.denominator (c.self.invariant.over_one form).denominator_short
 
-pub write_wholes-requires-clause-short : goal.write_wholes-requires-clause-short
-write_wholes-requires-clause-short c =
+pub write_over_same-requires-clause-short : goal.write_over_same-requires-clause-short
+write_over_same-requires-clause-short c =
     let self = c.self.inside in
     let numbers = self.numbers.items in
     let v = c.args.self.now in
     let form = whole_form self.is_whole self.denominator numbers self.fractions.items v c.self.view_is c.requires.whole in
     subst AreShort (sym c.deref-2.ensures.value) (c.self.invariant.over_one form).short
 
-pub write_wholes-requires-clause-next : goal.write_wholes-requires-clause-next
-write_wholes-requires-clause-next c =
+pub write_over_same-requires-clause-next : goal.write_over_same-requires-clause-next
+write_over_same-requires-clause-next c =
     let self = c.self.inside in
     let numbers = self.numbers.items in
     let v = c.args.self.now in
     let form = whole_form self.is_whole self.denominator numbers self.fractions.items v c.self.view_is c.requires.whole in
     subst AreShort (sym c.deref_mut.ensures.value) (c.self.invariant.spare_short form)
 
-pub write_wholes-requires-clause-some : goal.write_wholes-requires-clause-some
-write_wholes-requires-clause-some c = λ e.
+pub write_over_same-requires-clause-some : goal.write_over_same-requires-clause-some
+write_over_same-requires-clause-some c = λ e.
     let self = c.self.inside in
     let numbers = self.numbers.items in
     let v = c.args.self.now in
@@ -86,15 +86,15 @@ are_within-requires-clause-size c =
     let v = c.args.self.now in
     let form = whole_form self.is_whole self.denominator numbers self.fractions.items v c.self.view_is c.requires.whole in
     let size : length numbers ≡ c.args.rows * c.args.columns = whole_size self.is_whole self.denominator numbers self.fractions.items v c.self.view_is c.requires.whole ∙ c.requires.size in
-    let next_is = with_items_is self.spare_numbers c.write_wholes.new.next (c.write_wholes.auto.next ∙ c.deref_mut.ensures.len) in
+    let next_is = with_items_is self.spare_numbers c.write_over_same.new.next (c.write_over_same.auto.next ∙ c.deref_mut.ensures.len) in
     ap length (c.deref-3.ensures.value ∙ next_is)
-    ∙ c.write_wholes.auto.next ∙ ap length c.deref_mut.ensures.value ∙ c.self.invariant.spare_numbers_length form ∙ sym (c.self.invariant.numbers_length form) ∙ size
+    ∙ c.write_over_same.auto.next ∙ ap length c.deref_mut.ensures.value ∙ c.self.invariant.spare_numbers_length form ∙ size
 
 pub are_within-requires-clause-short : goal.are_within-requires-clause-short
 are_within-requires-clause-short c =
     let self = c.self.inside in
-    let next_is = with_items_is self.spare_numbers c.write_wholes.new.next (c.write_wholes.auto.next ∙ c.deref_mut.ensures.len) in
-    subst AreShort (sym (c.deref-3.ensures.value ∙ next_is)) c.write_wholes.ensures.short
+    let next_is = with_items_is self.spare_numbers c.write_over_same.new.next (c.write_over_same.auto.next ∙ c.deref_mut.ensures.len) in
+    subst AreShort (sym (c.deref-3.ensures.value ∙ next_is)) c.write_over_same.ensures.short
 
 pub take_rows-requires-clause-size : goal.take_rows-requires-clause-size
 take_rows-requires-clause-size c =
@@ -111,15 +111,15 @@ take_rows-requires-clause-next c =
     let v = c.args.self.now in
     let form = whole_form self.is_whole self.denominator numbers self.fractions.items v c.self.view_is c.requires.whole in
     let size : length numbers ≡ c.args.rows * c.args.columns = whole_size self.is_whole self.denominator numbers self.fractions.items v c.self.view_is c.requires.whole ∙ c.requires.size in
-    let next_is = with_items_is self.spare_numbers c.write_wholes.new.next (c.write_wholes.auto.next ∙ c.deref_mut.ensures.len) in
+    let next_is = with_items_is self.spare_numbers c.write_over_same.new.next (c.write_over_same.auto.next ∙ c.deref_mut.ensures.len) in
     ap length (c.deref-4.ensures.value ∙ next_is)
-    ∙ c.write_wholes.auto.next ∙ ap length c.deref_mut.ensures.value ∙ c.self.invariant.spare_numbers_length form ∙ sym (c.self.invariant.numbers_length form) ∙ size
+    ∙ c.write_over_same.auto.next ∙ ap length c.deref_mut.ensures.value ∙ c.self.invariant.spare_numbers_length form ∙ size
 
 pub take_rows-requires-clause-next_short : goal.take_rows-requires-clause-next_short
 take_rows-requires-clause-next_short c =
     let self = c.self.inside in
-    let next_is = with_items_is self.spare_numbers c.write_wholes.new.next (c.write_wholes.auto.next ∙ c.deref_mut.ensures.len) in
-    subst AreShort (sym (c.deref-4.ensures.value ∙ next_is)) c.write_wholes.ensures.short
+    let next_is = with_items_is self.spare_numbers c.write_over_same.new.next (c.write_over_same.auto.next ∙ c.deref_mut.ensures.len) in
+    subst AreShort (sym (c.deref-4.ensures.value ∙ next_is)) c.write_over_same.ensures.short
 
 pub take_rows-requires-clause-short : goal.take_rows-requires-clause-short
 take_rows-requires-clause-short c =
@@ -133,47 +133,54 @@ pub invariant_of-self : goal.invariant_of-self
 invariant_of-self c =
     let self = c.self.inside in
     let shape = c.self.invariant in
-    let next = c.write_wholes.new.next in
-    let next_is = with_items_is self.spare_numbers next (c.write_wholes.auto.next ∙ c.deref_mut.ensures.len) in
+    let next = c.write_over_same.new.next in
+    let next_is = with_items_is self.spare_numbers next (c.write_over_same.auto.next ∙ c.deref_mut.ensures.len) in
     record {
       spare_length = shape.spare_length;
       spare_room = shape.spare_room;
-      numbers_length = shape.numbers_length;
-      spare_numbers_length = λ e. ap length next_is ∙ c.write_wholes.auto.next ∙ ap length c.deref_mut.ensures.value ∙ shape.spare_numbers_length e;
+      fractions_length = shape.fractions_length;
+      fractions_room = shape.fractions_room;
+      numbers_room = shape.numbers_room;
+      spare_numbers_length = λ e. ap length next_is ∙ c.write_over_same.auto.next ∙ ap length c.deref_mut.ensures.value ∙ shape.spare_numbers_length e;
       over_one = shape.over_one;
-      spare_short = λ e. subst AreShort (sym next_is) c.write_wholes.ensures.short;
+      spare_short = λ e. subst AreShort (sym next_is) c.write_over_same.ensures.short;
     }
 
 pub invariant_of-self-then-not-are_within : goal.invariant_of-self-then-not-are_within
 invariant_of-self-then-not-are_within c =
     let self = c.self.inside in
     let shape = c.self.invariant in
-    let next = c.write_wholes.new.next in
-    let next_is = with_items_is self.spare_numbers next (c.write_wholes.auto.next ∙ c.deref_mut.ensures.len) in
+    let next = c.write_over_same.new.next in
+    let next_is = with_items_is self.spare_numbers next (c.write_over_same.auto.next ∙ c.deref_mut.ensures.len) in
     record {
       spare_length = shape.spare_length;
       spare_room = shape.spare_room;
-      numbers_length = shape.numbers_length;
-      spare_numbers_length = λ e. ap length next_is ∙ c.write_wholes.auto.next ∙ ap length c.deref_mut.ensures.value ∙ shape.spare_numbers_length e;
+      fractions_length = shape.fractions_length;
+      fractions_room = shape.fractions_room;
+      numbers_room = shape.numbers_room;
+      spare_numbers_length = λ e. ap length next_is ∙ c.write_over_same.auto.next ∙ ap length c.deref_mut.ensures.value ∙ shape.spare_numbers_length e;
       over_one = shape.over_one;
-      spare_short = λ e. subst AreShort (sym next_is) c.write_wholes.ensures.short;
+      spare_short = λ e. subst AreShort (sym next_is) c.write_over_same.ensures.short;
     }
 
 pub invariant_of-self-2 : goal.invariant_of-self-2
 invariant_of-self-2 c =
     let self = c.self.inside in
     let shape = c.self.invariant in
-    let next = c.write_wholes.new.next in
+    let next = c.write_over_same.new.next in
     let new = c.take_rows.new.numbers in
-    let next_is = with_items_is self.spare_numbers next (c.write_wholes.auto.next ∙ c.deref_mut.ensures.len) in
+    let next_is = with_items_is self.spare_numbers next (c.write_over_same.auto.next ∙ c.deref_mut.ensures.len) in
     let new_is = with_items_is self.numbers new (c.take_rows.auto.numbers ∙ c.deref_mut-2.ensures.len) in
+    let size = ap length new_is ∙ c.take_rows.auto.numbers ∙ ap length c.deref_mut-2.ensures.value in
     record {
       spare_length = shape.spare_length;
       spare_room = shape.spare_room;
-      numbers_length = λ e. ap length new_is ∙ c.take_rows.auto.numbers ∙ ap length c.deref_mut-2.ensures.value ∙ shape.numbers_length e;
-      spare_numbers_length = λ e. ap length next_is ∙ c.write_wholes.auto.next ∙ ap length c.deref_mut.ensures.value ∙ shape.spare_numbers_length e;
+      fractions_length = λ e. subst (λ n. length self.fractions.items ≤ n) (sym size) (shape.fractions_length e);
+      fractions_room = λ e. subst (λ n. n ≤ vec_capacity self.fractions) (sym size) (shape.fractions_room e);
+      numbers_room = λ e. subst (λ n. n ≤ vec_capacity self.spare) (sym size) (shape.numbers_room e);
+      spare_numbers_length = λ e. ap length next_is ∙ c.write_over_same.auto.next ∙ ap length c.deref_mut.ensures.value ∙ shape.spare_numbers_length e ∙ sym size;
       over_one = λ e. record { positive = (shape.over_one e).positive; denominator_short = (shape.over_one e).denominator_short; short = subst AreShort (sym new_is) c.take_rows.ensures.short };
-      spare_short = λ e. subst AreShort (sym next_is) c.write_wholes.ensures.short;
+      spare_short = λ e. subst AreShort (sym next_is) c.write_over_same.ensures.short;
     }
 
 pub returns-clause-done : goal.returns-clause-done
@@ -192,14 +199,14 @@ returns-clause-done c = λ t.
     let numbers_are = whole_numbers self.is_whole self.denominator numbers self.fractions.items v view_is c.requires.whole in
     let some : whole_number_at numbers at ≢ pos 0 = not_zero_number self.denominator numbers are.positive at (subst (λ xs. get_or xs at (int (pos 0)) ≢ int (pos 0)) list_is c.requires.some) in
     let marks = c.mark_left.new.left in
-    let next = c.write_wholes.new.next in
+    let next = c.write_over_same.new.next in
     let new = c.take_rows.new.numbers in
-    let next_is = with_items_is self.spare_numbers next (c.write_wholes.auto.next ∙ c.deref_mut.ensures.len) in
+    let next_is = with_items_is self.spare_numbers next (c.write_over_same.auto.next ∙ c.deref_mut.ensures.len) in
     let new_is = with_items_is self.numbers new (c.take_rows.auto.numbers ∙ c.deref_mut-2.ensures.len) in
     let new_size : length new ≡ a.rows * a.columns = c.take_rows.auto.numbers ∙ ap length c.deref_mut-2.ensures.value ∙ size in
     let left : AreLeft a.rows a.columns a.row a.place numbers a.unwritten.now marks = subst (λ xs. AreLeft a.rows a.columns a.row a.place xs a.unwritten.now marks) c.deref.ensures.value c.mark_left.ensures in
     let written : AreWritten a.columns a.row a.place self.denominator self.denominator numbers marks next (a.rows * a.columns) =
-    subst₂ (λ d xs. AreWritten a.columns a.row a.place d d xs marks next (a.rows * a.columns)) d_is c.deref-2.ensures.value (c.write_wholes.ensures.written c.if-not-write_wholes.false) in
+    subst₂ (λ d xs. AreWritten a.columns a.row a.place d d xs marks next (a.rows * a.columns)) d_is c.deref-2.ensures.value (c.write_over_same.ensures.written c.if-not-write_over_same.false) in
     let taken : (i k : ℕ) → i < a.rows → k < a.columns → is_unwritten marks i ≡ false → whole_number_at new (i * a.columns + k) ≡ whole_number_at next (i * a.columns + k) =
     (λ i k p q e. c.take_rows.ensures.taken i k p q e ∙ ap (λ xs. whole_number_at xs (i * a.columns + k)) (c.deref-4.ensures.value ∙ next_is)) in
     let kept : (i k : ℕ) → i < a.rows → k < a.columns → is_unwritten marks i ≡ true → whole_number_at new (i * a.columns + k) ≡ whole_number_at numbers (i * a.columns + k) =
@@ -215,20 +222,3 @@ returns-clause-done c = λ t.
     (listed_numbers self.is_whole self.denominator _ self.fractions.items form ∙ (λ j. over self.denominator (new_is j)))
     refl new_is slim
     (left_within a.rows a.columns a.row a.place self.denominator numbers a.unwritten.now marks next new c.requires.row c.requires.place size are.short are.positive are.denominator_short some left written taken kept a.limit before after)
-
-pub write_wholes-requires-clause-after_positive : goal.write_wholes-requires-clause-after_positive
-write_wholes-requires-clause-after_positive c =
-    let self = c.self.inside in
-    let numbers = self.numbers.items in
-    let v = c.args.self.now in
-    let form = whole_form self.is_whole self.denominator numbers self.fractions.items v c.self.view_is c.requires.whole in
-    let are = c.self.invariant.over_one form in
-    positive_again self.denominator are.denominator_short are.positive
-
-pub write_wholes-requires-clause-after : goal.write_wholes-requires-clause-after
-write_wholes-requires-clause-after c =
-    let self = c.self.inside in
-    let numbers = self.numbers.items in
-    let v = c.args.self.now in
-    let form = whole_form self.is_whole self.denominator numbers self.fractions.items v c.self.view_is c.requires.whole in
-    short_again self.denominator (c.self.invariant.over_one form).denominator_short

@@ -1,4 +1,4 @@
-use Rattle.std.proofs.Common.{sym, ap, subst, refl, ◌∙◌, arith, ◌≡◌, ◌<◌, length, set, ℤ, List, to_z, of_z, w64}
+use Rattle.std.proofs.Common.{◌≤◌, vec_capacity, sym, ap, subst, refl, ◌∙◌, arith, ◌≡◌, ◌<◌, length, set, ℤ, List, to_z, of_z, w64}
 use Rattle.std.proofs.lemmas.Int.{ints}
 use Rattle.std.proofs.lemmas.List.{length-map, length-set}
 use Rattle.frac128.specs.LowestTerms.{quotient_of}
@@ -20,11 +20,14 @@ invariant_of-self c =
     let shape = c.self.invariant in
     let number = to_z w64 (of_z w64 c.args.number) in
     let short : IsShort number = let h = c.requires.short in omega (arith, ints, h) in
+    let size = length-set self.numbers.items c.args.at number in
     record {
       spare_length = shape.spare_length;
       spare_room = shape.spare_room;
-      numbers_length = λ e. length-set self.numbers.items c.args.at number ∙ shape.numbers_length e;
-      spare_numbers_length = shape.spare_numbers_length;
+      fractions_length = λ e. subst (λ n. length self.fractions.items ≤ n) (sym size) (shape.fractions_length e);
+      fractions_room = λ e. subst (λ n. n ≤ vec_capacity self.fractions) (sym size) (shape.fractions_room e);
+      numbers_room = λ e. subst (λ n. n ≤ vec_capacity self.spare) (sym size) (shape.numbers_room e);
+      spare_numbers_length = λ e. shape.spare_numbers_length e ∙ sym size;
       over_one = λ e. set_over self.denominator self.numbers.items c.args.at number (shape.over_one e) short;
       spare_short = shape.spare_short;
     }

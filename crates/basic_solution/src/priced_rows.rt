@@ -1,0 +1,101 @@
+// The rows whose basic variable has a cost: few, where most have none. Reduced costs are sums over them alone.
+ghost use Rattle.std.specs.Prelude.{◌<◌, ◌<ℤ◌, pos, IfSome};
+ghost use Rattle.table_entries.specs.WholeSteps.{IsShort};
+ghost use Rattle.basic_solution.specs.RowTotals.{IsCostTotal};
+ghost use Rattle.basic_solution.specs.Priced.{ArePriced};
+
+use crate::row_totals::with_product;
+use crate::sided::SidedBasis;
+use whole_sums::product;
+
+/// The rows whose basic variable has a cost, beside them these costs, and how many there are, where that is known
+/// (`SidedBasis::write_priced`).
+#[derive(Clone, Copy, Drop)]
+pub struct PricedRows<'a> {
+    pub rows: &'a [usize],
+    pub numbers: &'a [i64],
+    pub count: Option<usize>,
+}
+
+impl SidedBasis<'_> {
+    /// Writes the rows whose basic variable has a cost, beside them these costs, and answers how many there are. None where a list is
+    /// too short or a cost is no small whole number; then the lists are of no meaning.
+    pub fn write_priced(&self, rows: &mut [usize], numbers: &mut [i64]) -> Option<usize>
+        ensures { IfSome result (λ n. ArePriced self.now rows.new numbers.new n) }
+    {
+        let mut count = 0;
+        for row in 0..self.tableau.activities() {
+            let Some(number) = self.cost.small_of(self.tableau.basic(row)) else {
+                return None;
+            };
+            if number != 0 {
+                if rows.len() <= count {
+                    return None;
+                }
+                if numbers.len() <= count {
+                    return None;
+                }
+                rows[count] = row;
+                numbers[count] = number;
+                count += 1;
+            }
+        }
+        Some(count)
+    }
+
+    /// The reduced cost of a place times the denominator, by the rows whose basic variable has a cost, where the entries are numbers
+    /// over that: then each sum of its terms has room, in any order. None says nothing of the reduced cost.
+    fn priced_total(
+        &self,
+        place: usize,
+        denominator: i64,
+        rows: &[usize],
+        numbers: &[i64],
+        count: usize,
+    ) -> Option<i128>
+        requires place { place < self.now.tableau.columns }
+        requires positive { pos 0 <ℤ denominator }
+        requires denominator { IsShort denominator }
+        requires priced { ArePriced self.now rows.now numbers.now count }
+        ensures { IfSome result (λ total. IsCostTotal self.now place denominator total) }
+    {
+        let Some(start) = self.cost.small_of(self.tableau.nonbasic(place)) else {
+            return None;
+        };
+        let _few = self.tableau.columns();
+        let mut total = product(start, denominator);
+        for turn in 0..count {
+            let Some(factor) = self.tableau.number_over(rows[turn], place, denominator) else {
+                return None;
+            };
+            total = with_product(total, factor, numbers[turn]);
+        }
+        Some(total)
+    }
+
+    /// The reduced cost of a place times the denominator, as `cost_total`, by the rows whose basic variable has a cost where these are
+    /// known.
+    pub fn cost_total_by(
+        &self,
+        place: usize,
+        denominator: i64,
+        priced: &PricedRows<'_>,
+    ) -> Option<i128>
+        requires place { place < self.now.tableau.columns }
+        requires positive { pos 0 <ℤ denominator }
+        requires denominator { IsShort denominator }
+        requires priced { IfSome priced.now.count (λ n. ArePriced self.now priced.now.rows.now priced.now.numbers.now n) }
+        ensures { IfSome result (λ total. IsCostTotal self.now place denominator total) }
+    {
+        match priced.count {
+            Some(count) => self.priced_total(
+                place,
+                denominator,
+                priced.rows,
+                priced.numbers,
+                count,
+            ),
+            None => self.cost_total(place, denominator),
+        }
+    }
+}

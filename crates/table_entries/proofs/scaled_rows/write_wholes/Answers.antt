@@ -1,0 +1,45 @@
+use Rattle.std.proofs.Common.{subst₂, arith, ◌<◌, ◌≤◌, ◌*◌}
+use Rattle.std.proofs.Math.Nat.{mul-le-mul_right}
+use Rattle.table_entries.specs.WholeSteps.{WholeAt, whole_number_at}
+use Rattle.table_entries.proofs.ReadLemmas.{short_read, short_again, positive_again}
+use Rattle.table_entries.proofs.scaled_rows.write_wholes.Goals as goal
+
+pub returns-clause-written : goal.returns-clause-written
+returns-clause-written c = λ t at less flag.
+    let a = c.args in
+    let d1 = short_read a.denominator c.requires.denominator in
+    let past : a.rows ≤ c.loop-at_row.at_row = c.loop-at_row-test.false in
+    let all : a.rows * a.columns ≤ c.loop-at_row.at_row * a.columns = mul-le-mul_right a.columns past in
+    let inside : at < c.loop-at_row.at_row * a.columns = omega (arith, less, all) in
+    let after_is = short_read a.after c.requires.after in
+    subst₂ (λ d g. WholeAt a.columns a.row a.place d g a.numbers.now (whole_number_at c.loop-at_row.next at) at) d1 after_is (c.loop-at_row.invariant.written at inside flag)
+
+pub loop-at_row-init : goal.loop-at_row-init
+loop-at_row-init c = record { written = λ at less flag. absurd (omega (arith, less)); short = c.requires.next }
+
+pub write_row_over-requires-clause-room : goal.write_row_over-requires-clause-room
+write_row_over-requires-clause-room c = let w = c.loop-at_row.auto.next in let v = c.requires.room in omega (arith, w, v)
+
+pub write_row_over-requires-clause-positive : goal.write_row_over-requires-clause-positive
+write_row_over-requires-clause-positive c = positive_again c.args.denominator c.requires.denominator c.requires.positive
+
+pub write_row_over-requires-clause-denominator : goal.write_row_over-requires-clause-denominator
+write_row_over-requires-clause-denominator c = short_again c.args.denominator c.requires.denominator
+
+pub write_row_over-requires-clause-next : goal.write_row_over-requires-clause-next
+write_row_over-requires-clause-next c = c.loop-at_row.invariant.short
+
+pub write_row_over-requires-clause-earlier : goal.write_row_over-requires-clause-earlier
+write_row_over-requires-clause-earlier c = c.loop-at_row.invariant.written
+
+pub loop-at_row-preserved : goal.loop-at_row-preserved
+loop-at_row-preserved c = record { written = c.write_row_over.ensures.written c.if-not-write_row_over.false; short = c.write_row_over.ensures.short }
+
+pub returns-clause-short : goal.returns-clause-short
+returns-clause-short c = c.loop-at_row.invariant.short
+
+pub write_row_over-requires-clause-after_positive : goal.write_row_over-requires-clause-after_positive
+write_row_over-requires-clause-after_positive c = positive_again c.args.after c.requires.after c.requires.after_positive
+
+pub write_row_over-requires-clause-after : goal.write_row_over-requires-clause-after
+write_row_over-requires-clause-after c = short_again c.args.after c.requires.after

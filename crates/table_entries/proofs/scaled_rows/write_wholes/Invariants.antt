@@ -1,0 +1,9 @@
+use Rattle.std.proofs.Common.{◌*◌}
+use Rattle.table_entries.specs.WholeSteps.{AreShort, AreWritten}
+use Rattle.table_entries.proofs.scaled_rows.write_wholes.Given as goal
+
+abbrev pub invariant-loop-at_row : goal.invariant-loop-at_row
+invariant-loop-at_row l = record {
+  written : AreWritten l.columns l.row l.place l.denominator l.after l.numbers l.unwritten l.next (l.at_row * l.columns);
+  short : AreShort l.next;
+}
