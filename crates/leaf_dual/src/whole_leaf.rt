@@ -25,7 +25,8 @@ use whole_sums::{
 };
 
 /// A leaf, with the numbers of its rows' multipliers and of its cuts' weights over a denominator. For each of the first cuts
-/// that are known the next one, itself included, that has a weight: few have one, and each column's cost is taken over all.
+/// that are known the next one, itself included, that has a weight: few have one, and each column's cost is taken over all. Of the
+/// first columns whose number is known what is left of their costs.
 #[derive(Clone, Copy, Drop)]
 pub struct WholeLeaf<'a> {
     pub leaf: Leaf<'a>,
@@ -34,6 +35,8 @@ pub struct WholeLeaf<'a> {
     pub cuts: &'a [i64],
     pub next: &'a [usize],
     pub known: usize,
+    pub costs_left: &'a [i64],
+    pub costs_known: usize,
 }
 
 /// The number at a place, if there is one.
@@ -105,7 +108,7 @@ fn side_term(weight: i64, side: &Bound) -> Option<WholeTerm>
 
 /// What a weight over any denominator takes away of a cost by a coefficient, where that is whole and short.
 #[inline]
-fn taken_term(weight: i64, coefficient: &Frac) -> Option<WholeTerm>
+pub(crate) fn taken_term(weight: i64, coefficient: &Frac) -> Option<WholeTerm>
     requires { IsShort weight }
     ensures { IfSome result (λ t. (d : ℤ) → pos 0 <ℤ d → IsWholeTerm d (neg_ℚ (quotient_of weight d)) coefficient.now t.factor t.number) }
 {
@@ -250,7 +253,7 @@ impl WholeLeaf<'_> {
     }
 
     /// The next cut from a place on that has a weight, and how many there are where none has.
-    fn next_weighed(&self, place: usize) -> usize
+    pub(crate) fn next_weighed(&self, place: usize) -> usize
         requires whole { IsWholeLeaf self.now }
         requires place { place ≤ length self.now.leaf.cuts.now }
         ensures from { place ≤ result }
@@ -321,7 +324,7 @@ impl WholeLeaf<'_> {
     }
 
     /// What the rows leave of a column's cost, over the denominator, where it can be had in whole numbers. None says nothing.
-    fn after_rows(&self, col: usize) -> Option<i128>
+    pub(crate) fn after_rows(&self, col: usize) -> Option<i128>
         requires whole { IsWholeLeaf self.now }
         requires within { col < length self.now.leaf.model.now.cols }
         ensures room { IfSome result (λ total. HasMargin total) }
@@ -340,13 +343,16 @@ impl WholeLeaf<'_> {
         )
     }
 
-    /// What is left of a column's cost, over the denominator, where it can be had in whole numbers. None says nothing.
+    /// What is left of a column's cost, over the denominator, where it is known or can be had in whole numbers. None says nothing.
     pub(crate) fn cost_left(&self, col: usize) -> Option<i64>
         requires whole { IsWholeLeaf self.now }
         requires within { col < length self.now.leaf.model.now.cols }
         ensures short { IfSome result (λ n. IsShort n) }
         ensures left { IfSome result (λ n. IsCostAnswer self.now.leaf.model.now self.now.leaf.cuts.now (weights self.now.leaf) (cut_weights self.now.leaf) (costs self.now.leaf) col (Ok (quotient_of n self.now.denominator))) }
     {
+        if col < self.costs_known {
+            return weight_at(self.costs_left, col);
+        }
         let Some(by_rows) = self.after_rows(col) else {
             return None;
         };

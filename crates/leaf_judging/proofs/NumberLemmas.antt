@@ -1,9 +1,10 @@
 -- What is kept of leaves: under one id, of leaves in other states, and from before an edit.
-use Rattle.std.specs.Prelude.{◌≡◌, ◌≢◌, ℕ, ◌<◌, false, List, [], ◌∷◌, drop, Option, Some, None, IsSome, IfSome, Result, Ok, Err, OnOk, OnErr}
+use Rattle.std.specs.Prelude.{◌≡◌, ◌≢◌, ℕ, ◌<◌, false, List, [], ◌∷◌, drop, Option, Some, None, IsSome, IfSome, Box, box_value}
+use Rattle.std.specs.Option.{option_map}
 use Rattle.std.specs.declared.cmp.Ordering.{Ordering}
 use Rattle.std.specs.declared.cmp.Ordering.TheVariants.{Less, Equal, Greater}
 use Rattle.std.specs.Ordering.{MatchOrdering, nat_cmp, is_eq}
-use Rattle.std.proofs.Common.{refl, sym, subst, ◌∙◌, arith, inl, inr}
+use Rattle.std.proofs.Common.{refl, sym, ◌∙◌, arith, inl, inr}
 use Rattle.std.proofs.lemmas.Cmp.{ranked}
 use Rattle.lp_model.specs.Regions.{Path}
 use Rattle.lp_model.specs.Formulations.{Formulation}
@@ -27,12 +28,12 @@ apart-id a b ne = by (nat_cmp a b) (ranked a b (nat_cmp a b) refl)
     by Equal k = absurd (ne (sym k))
     by Greater k = refl
 
--- ---- what is said of a call that may fail
+-- ---- on the heap
 
--- one that fails for nothing alone, and there is something
-pub ok-where-some : {A E X P : Type 0} (r : Result A E) (o : Option X) → OnErr r (o ≡ None) → IsSome o → OnOk r P → P
-ok-where-some (Ok a) o none some h = h
-ok-where-some {X = X} (Err e) o none some h = let f : IsSome {T = X} None = subst IsSome none some in cc
+-- what is held where something is kept is held
+pub some-held : {X Z : Type 0} (o : Option (Box X Z)) → IsSome (option_map box_value o) → IsSome o
+some-held None h = h
+some-held (Some held) h = refl
 
 -- ---- other states
 

@@ -1,5 +1,5 @@
 -- The numbers of leaves, which are kept by their ids, and what a walk over a tree makes of them.
-use Rattle.std.specs.Prelude.{◌≡◌, ◌≢◌, ℕ, [], ◌∷◌, ◌++◌, Option, Some}
+use Rattle.std.specs.Prelude.{◌≡◌, ◌≢◌, ℕ, [], ◌∷◌, ◌++◌, Option, Some, box_value}
 use Rattle.std.specs.BTreeMap.{get}
 use Rattle.std.specs.Option.{option_map}
 use Rattle.std.specs.Ordering.{nat_cmp}
@@ -20,7 +20,7 @@ use Rattle.leaf_judging.specs.Queued.{Adds, candidate_of}
 
 -- the number that is kept under an id, with the totals of its lists
 unfoldable pub kept_entry : LeafNumbers → ℕ → Option LeafEntry
-kept_entry numbers id = get nat_cmp numbers.kept id
+kept_entry numbers id = option_map box_value (get nat_cmp numbers.kept id)
 
 -- and the number alone
 abbrev pub kept_number : LeafNumbers → ℕ → Option LeafNumber

@@ -5,30 +5,32 @@ ghost use Rattle.lp_model.specs.Regions.{Path, AreNarrow};
 ghost use Rattle.lp_model.specs.Formulations.{formulation};
 ghost use Rattle.lp_model.specs.declared.types.CutRow.{CutRow};
 ghost use Rattle.lp_model.specs.declared.types.Var.{Var};
-ghost use Rattle.leaf_dual.specs.Dual.{Multipliers, HavePlaces};
+ghost use Rattle.leaf_dual.specs.Dual.{Multipliers};
 ghost use Rattle.leaf_totals.specs.declared.keeping.LeafTotals.{LeafTotals};
-ghost use Rattle.leaf_totals.specs.Keeping.{question_of, list_question, AnswersQuestion, AreComplete, kept_most, steps_left};
-ghost use Rattle.leaf_totals.specs.Likeness.{CanGoOn, IsBackBefore, IsBack};
+ghost use Rattle.leaf_totals.specs.Keeping.{list_question, AreComplete, kept_most, steps_left};
+ghost use Rattle.leaf_totals.specs.Likeness.{IsBackBefore, IsBack};
 ghost use Rattle.leaf_judging.specs.declared.closing.LeafNumber.TheVariants.{Empty};
 ghost use Rattle.leaf_judging.specs.Closing.{IsRefuted};
 ghost use Rattle.leaf_judging.specs.Totals.{AreListTotals, AreFarkasTotals, IsEntryOf, terms_of};
 ghost use Rattle.leaf_judging.specs.private.Entries.{CanRefute, HasRefuted, IsLagNumber, GoesOnFrom};
 
 use crate::closing::LeafNumber;
+use crate::optional::{OptionalTotals, list_number};
 use cover_cuts::CutPool;
-use leaf_dual::{LagValue, Leaf, Steps, named_front};
+use leaf_dual::{LagValue, Leaf, Steps};
 use leaf_totals::LeafTotals;
 use lp_model::{BoundChange, Model, Mult, WideStep};
 use std::alloc::{AllocError, Global};
 use std::marker::Brand;
 use std::sync::ledger::{Blank, Ledger};
 
-/// A leaf's number, and the totals of its multipliers and of its Farkas multipliers. Of a list without any none are kept.
+/// A leaf's number, and the totals of its multipliers and of its Farkas multipliers. Of a list without any none are kept: most
+/// leaves have no Farkas multipliers.
 #[derive(Drop)]
 pub struct LeafEntry {
     pub number: LeafNumber,
     pub lag: LeafTotals,
-    pub farkas: LeafTotals,
+    pub farkas: OptionalTotals,
 }
 
 /// How many totals are kept of a list at most.
@@ -38,37 +40,9 @@ pub(crate) fn totals_room(model: &Model) -> usize
     model.cols().len() / 64 + 2
 }
 
-/// The number of a list of a leaf, gone on with from the last total that is kept. Cuts behind the last one that the list names
-/// are left out: their weight is 0.
-fn list_number<L: Ledger>(
-    totals: &mut LeafTotals,
-    leaf: &Leaf<'_>,
-    steps: &mut Steps<L>,
-) -> Result<LagValue, WideStep>
-    requires narrow { AreNarrow leaf.now.region.now }
-    requires places { HavePlaces leaf.now.cuts.now }
-    requires ready { CanGoOn (question_of leaf.now) totals.old }
-    requires room { kept_most (question_of leaf.now) ≤ totals.old.totals.room }
-    ensures answer { AnswersQuestion (question_of leaf.now) result }
-    ensures ready { CanGoOn (question_of leaf.now) totals.new }
-    ensures complete { AreComplete (question_of leaf.now) totals.new }
-    ensures room { totals.new.totals.room ≡ totals.old.totals.room }
-    ensures rises { steps.old ≤ steps.new }
-    ensures steps { steps.new ≤ steps.old + steps_left (question_of leaf.now) totals.old }
-{
-    let front = Leaf {
-        model: leaf.model,
-        cuts: named_front(leaf.cuts, leaf.mult),
-        region: leaf.region,
-        mult: leaf.mult,
-        costed: leaf.costed,
-    };
-    totals.go_on(&front, steps)
-}
-
 /// Whether there are Farkas multipliers, and their number is above 0, gone on with from what is kept.
 fn refutes<L: Ledger>(
-    totals: &mut LeafTotals,
+    totals: &mut OptionalTotals,
     model: &Model,
     pool: &CutPool,
     region: &[BoundChange],
@@ -92,7 +66,7 @@ fn refutes<L: Ledger>(
         mult: farkas.as_slice(),
         costed: false,
     };
-    match list_number(totals, &leaf, steps) {
+    match totals.number(&leaf, steps) {
         Ok(value) => value.is_positive(),
         Err(_) => false,
     }
@@ -158,7 +132,7 @@ impl LeafEntry {
         let Ok(lag) = LeafTotals::new(alloc, totals_room(model)) else {
             return Err(AllocError);
         };
-        match LeafTotals::new(alloc, farkas_room(model, farkas)) {
+        match OptionalTotals::new(alloc, farkas_room(model, farkas)) {
             Ok(farkas) => Ok(LeafEntry {
                 number: LeafNumber::Lag(LagValue::Minus),
                 lag,

@@ -36,6 +36,7 @@ mod former;
 mod judging;
 mod numbering;
 mod numbers;
+mod optional;
 mod queue;
 
 pub use choosing::{Candidate, as_candidate, finite_number};
@@ -44,4 +45,5 @@ pub use entry::{LeafEntry, entry_of};
 pub use former::Former;
 pub use judging::{Judged, LeafIndex, Marks, judge_again, judge_all, judge_all_unseen, judge_tree};
 pub use numbers::LeafNumbers;
+pub use optional::OptionalTotals;
 pub use queue::LeafQueue;

@@ -1,8 +1,8 @@
 // The numbers of leaves, by their ids.
-ghost use Rattle.std.specs.Prelude.{◌≡◌, ◌≢◌, IsSome, Some, None, OnOk, OnErr};
-ghost use Rattle.std.specs.Option.{option_copied};
+ghost use Rattle.std.specs.Prelude.{◌≡◌, ◌≢◌, ℕ, false, IsSome, Some, None, OnOk, OnErr, box_value};
+ghost use Rattle.std.specs.Option.{option_copied, option_map};
 ghost use Rattle.std.specs.BTreeMap.{get, Updates, IsUnchanged};
-ghost use Rattle.std.specs.Ordering.{nat_cmp};
+ghost use Rattle.std.specs.Ordering.{nat_cmp, is_eq};
 ghost use Rattle.leaf_dual.specs.declared.dual.LagValue.TheVariants.{Minus};
 ghost use Rattle.leaf_judging.specs.declared.closing.LeafNumber.{LeafNumber};
 ghost use Rattle.leaf_judging.specs.declared.closing.LeafNumber.TheVariants.{Lag};
@@ -11,6 +11,7 @@ ghost use Rattle.leaf_judging.specs.private.Numbers.{AreSameNumbers};
 
 use crate::closing::LeafNumber;
 use crate::entry::LeafEntry;
+use crate::optional::boxed;
 use leaf_dual::LagValue;
 use std::alloc::{AllocError, Global};
 use std::collections::BTreeMap;
@@ -18,18 +19,33 @@ use std::collections::BTreeMap;
 /// Puts a value under a key. It stands apart for any value, since the answer of the map's own call holds one.
 fn insert<V: Drop>(map: &mut BTreeMap<u64, V>, key: u64, value: V) -> Result<(), AllocError>
     ensures updates { OnOk result (Updates nat_cmp map.old map.new key (Some value)) }
-    ensures absent { OnErr result (get nat_cmp map.old key ≡ None) }
     ensures same { OnErr result (IsUnchanged map.old map.new) }
 {
     map.insert(key, value)?;
     Ok(())
 }
 
-/// The numbers of leaves, each under the leaf's id with the totals of its lists, so that none is computed twice. A function that
-/// hands a number on by value names `LagValue`, without which its proof isn't told that type.
+/// Puts another value in the place of one that is kept on the heap, which takes no memory.
+fn put_over<V: Drop>(map: &mut BTreeMap<u64, Box<V>>, key: u64, value: V)
+    requires { IsSome (get nat_cmp map.old key) }
+    ensures value { option_map box_value (get nat_cmp map.new key) ≡ Some value }
+    ensures others { (k : ℕ) → is_eq (nat_cmp key k) ≡ false → get nat_cmp map.new k ≡ get nat_cmp map.old k }
+{
+    match map.get_mut(&key) {
+        Some(held) => {
+            let _ = Box::replace(held, value);
+        }
+        None => unreachable!(),
+    }
+}
+
+/// The numbers of leaves, each under the leaf's id with the totals of its lists, so that none is computed twice. The entries are on
+/// the heap, since a map's nodes are half empty. A function that hands a number on by value names `LagValue`, without which its
+/// proof isn't told that type.
 #[derive(Drop)]
 pub struct LeafNumbers {
-    kept: BTreeMap<u64, LeafEntry>,
+    alloc: Global,
+    kept: BTreeMap<u64, Box<LeafEntry>>,
 }
 
 #[tactic(auto, unfolding(crate::specs::Numbers::kept_entry))]
@@ -37,6 +53,7 @@ impl LeafNumbers {
     /// No number.
     pub(crate) fn new(alloc: Global) -> LeafNumbers {
         LeafNumbers {
+            alloc,
             kept: BTreeMap::new(alloc),
         }
     }
@@ -45,14 +62,17 @@ impl LeafNumbers {
     pub(crate) fn entry(&self, id: u64) -> Option<&LeafEntry>
         ensures { option_copied result ≡ kept_entry self.now id }
     {
-        self.kept.get(&id)
+        match self.kept.get(&id) {
+            Some(held) => Some(held.as_ref()),
+            None => None,
+        }
     }
 
     /// The number that is kept under the id.
     pub fn get(&self, id: u64) -> Option<LeafNumber>
         ensures { result ≡ kept_number self.now id }
     {
-        match self.kept.get(&id) {
+        match self.entry(id) {
             Some(entry) => Some(entry.number),
             None => None,
         }
@@ -63,7 +83,7 @@ impl LeafNumbers {
         ensures kept { (n : LeafNumber) → kept_number self.now id ≡ Some n → result ≡ n }
         ensures unknown { kept_number self.now id ≡ None → result ≡ Lag Minus }
     {
-        match self.kept.get(&id) {
+        match self.entry(id) {
             Some(entry) => entry.number,
             None => LeafNumber::Lag(LagValue::Minus),
         }
@@ -78,7 +98,8 @@ impl LeafNumbers {
         ensures put { OnOk result (PutsEntry self.old id entry self.new) }
         ensures kept { OnErr result (AreSameNumbers self.old self.new) }
     {
-        insert(&mut self.kept, id, entry)?;
+        let held = boxed(self.alloc, entry)?;
+        insert(&mut self.kept, id, held)?;
         Ok(())
     }
 
@@ -112,7 +133,7 @@ impl LeafNumbers {
         requires { IsSome (kept_entry self.old id) }
         ensures { PutsEntry self.old id entry self.new }
     {
-        let _ = insert(&mut self.kept, id, entry);
+        put_over(&mut self.kept, id, entry);
     }
 
     /// Keeps no entry under the id.

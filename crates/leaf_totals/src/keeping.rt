@@ -63,6 +63,8 @@ fn walk_in_fractions<L: Ledger>(
         cuts: &[],
         next: &[],
         known: 0,
+        costs_left: &[],
+        costs_known: 0,
     };
     walk(totals, &whole, steps)
 }
@@ -99,6 +101,8 @@ fn walk_leaf<L: Ledger>(totals: &mut Totals, leaf: &Leaf<'_>, steps: &mut Steps<
         cuts: &cuts,
         next: &next,
         known,
+        costs_left: &[],
+        costs_known: 0,
     };
     walk(totals, &whole, steps)
 }

@@ -1,88 +1,105 @@
--- A search with one more cut is sound, and keeps its numbers and its queue.
-use Rattle.std.specs.Prelude.{◌≡◌, ◌<◌, List, [], ◌∷◌, ◌++◌, length, Result, Ok, Err, IfOk, OnOk, OnErr}
-use Rattle.std.proofs.Common.{sym, ap, subst, arith, inl, inr}
+-- A search with one more cut is sound, and keeps its numbers and its queue: no list names the cut.
+use Rattle.std.specs.Prelude.{◌≡◌, ℕ, zero, suc, ◌<◌, true, false, List, [], ◌∷◌, ◌++◌, length, pos, None, Some, Result, Ok, Err, IfOk, OnOk, OnErr}
+use Rattle.std.proofs.Common.{refl, sym, ap, subst, ◌∙◌, arith, inl, inr, true≢false}
+use Rattle.std.proofs.lemmas.Bool.{cases_order}
 use Rattle.std.proofs.lemmas.List.{length_push}
 use Rattle.std.proofs.lemmas.List.Elements.{All-push}
-use Rattle.frac128.specs.Rational.{ℚ}
-use Rattle.lp_model.specs.Regions.{Path}
+use Rattle.frac128.specs.Rational.{ℚ, int}
+use Rattle.lp_model.specs.Cuts.{is_live}
+use Rattle.lp_model.specs.CutTerms.{term_of}
+use Rattle.lp_model.specs.Elements.{of_element}
+use Rattle.lp_model.specs.Program.{Program}
 use Rattle.lp_model.specs.Formulations.{Formulation, formulation}
 use Rattle.lp_model.specs.declared.types.CutRow.{CutRow}
 use Rattle.lp_model.specs.declared.types.Derivation.{Derivation}
+use Rattle.lp_model.proofs.ElementLemmas.{of_element-past}
 use Rattle.cover_cuts.specs.Cuts.{IsCutOf}
-use Rattle.branch_tree.specs.Tree.{Leaf, Split, left_path, right_path}
-use Rattle.branch_tree.specs.Leaves.{region_leaf}
-use Rattle.branch_tree.specs.Plain.{LeafKept, Plain}
+use Rattle.spared_leaves.specs.declared.touched.Touched.TheVariants.{Nothing}
+use Rattle.spared_leaves.specs.Alike.{AreAlikeBut, AreAlikeCuts}
 use Rattle.leaf_judging.specs.declared.numbers.LeafNumbers.{LeafNumbers}
 use Rattle.leaf_judging.specs.declared.queue.LeafQueue.{LeafQueue}
-use Rattle.leaf_judging.specs.declared.choosing.Candidate.{Candidate}
-use Rattle.leaf_judging.specs.Closing.{IsJudgedLeaf}
-use Rattle.leaf_judging.specs.Choosing.{IsCandidate}
-use Rattle.leaf_judging.specs.Numbers.{HasKept}
-use Rattle.leaf_judging.specs.Queued.{SomeLeaf, IsQueued, IsQueueOf}
 use Rattle.search_parts.specs.Points.{target}
-use Rattle.search_parts.specs.Lists.{HasLists, HasNodeLists}
 use Rattle.sound_searches.specs.Sound.{PlainSearch, formulation_of}
-use Rattle.tree_edit.specs.Indexed.{IsIndexed}
-use Rattle.tree_edit.proofs.FurtherEntry.{entry-more}
 use Rattle.sound_searches.specs.Pool.{search_with_cut, AddsCut}
-use Rattle.sound_searches.proofs.FurtherCut.{lists-more, number-more, judged-more, each-more}
+use Rattle.sound_searches.proofs.FurtherCut.{lists-more}
+use Rattle.tree_edit.specs.Indexed.{IsIndexed}
+use Rattle.tree_edit.specs.private.Staying.{KeepsIndex}
+use Rattle.tree_edit.proofs.QuietChange.{IsQuietChange, keeps-index}
 
-module _ (F : Formulation) (c : CutRow) where
-  abbrev G : Formulation
-  G = formulation F.model (F.cuts ++ c ∷ [])
+-- an element before a further one
+before-push : {A B : Type 0} (d : B) (f : A → B) (xs : List A) (y : A) (k : ℕ) → k < length xs → of_element d f xs k ≡ of_element d f (xs ++ y ∷ []) k
+before-push d f [] y k below = absurd (omega arith)
+before-push d f (x ∷ xs) y zero below = refl
+before-push d f (x ∷ xs) y (suc k) below = let h : k < length xs = omega arith in before-push d f xs y k h
 
-  -- ---- leaves
+-- a model is alike itself
+alike-self : (M : Program) → AreAlikeBut Nothing M M
+alike-self M = record {
+  sense = refl;
+  constant_is = refl;
+  cost_is = λ j left. refl;
+  columns = λ j left. record { there = ((λ h. h), (λ h. h)); low = refl; up = refl; integer = refl };
+  rows = λ i left. record { there = ((λ h. h), (λ h. h)); low = refl; high = refl };
+  entry = λ i j row column. refl;
+}
 
-  kept-more : (numbers : LeafNumbers) (path : Path) (l : LeafKept) → HasLists F l.kept → HasKept F numbers path l → HasKept G numbers path l
-  kept-more numbers path l lists h = (h.0, (h.1.0, entry-more F c path l.kept.mult l.kept.farkas lists.mult lists.farkas h.0 h.1.1))
+module _ (cuts : List CutRow) (c : CutRow) where
+  abbrev more : List CutRow
+  more = cuts ++ c ∷ []
 
-  candidate-more : (path : Path) (l : LeafKept) (d : Candidate) → HasLists F l.kept → IsCandidate F (region_leaf (path, l)) d → IsCandidate G (region_leaf (path, l)) d
-  candidate-more path l d lists h = record {
-    state = h.state;
-    number = h.number;
-    number_is = number-more F c path l.kept.mult l.kept.farkas lists.mult lists.farkas h.number h.number_is;
-    id = h.id;
-    leaf_number_is = h.leaf_number_is;
-  }
+  live-more : (k : ℕ) → k < length cuts → is_live cuts k ≡ is_live more k
+  live-more k below = before-push false (λ (d : CutRow). d.live) cuts c k below
 
-  queued-more : (queue : LeafQueue) (path : Path) (l : LeafKept) → HasLists F l.kept → IsQueued F queue path l → IsQueued G queue path l
-  queued-more queue path l lists (inl closed) = inl closed
-  queued-more queue path l lists (inr (d, (is, has))) = inr (d, (candidate-more path l d lists is, has))
+  live-below : (k : ℕ) → is_live cuts k ≡ true → k < length cuts
+  live-below k live = elim (cases_order k (length cuts)) [
+    | inl e ↦ absurd (true≢false (sym live ∙ of_element-past false (λ (d : CutRow). d.live) cuts k (omega arith)))
+    | inr o ↦ elim o [ inl below ↦ below | inr above ↦ absurd (true≢false (sym live ∙ of_element-past false (λ (d : CutRow). d.live) cuts k (omega arith))) ]
+  ]
 
-  -- ---- trees whose lists name what is there
+  cuts-alike : AreAlikeCuts cuts more
+  cuts-alike k live after =
+      let below = live-below k live in
+      let count = length_push cuts c in
+      record {
+        there = ((λ h. omega (arith, h, count)), (λ h. below));
+        high = before-push None (λ (d : CutRow). Some d.hi) cuts c k below;
+        entry = λ j. before-push (int (pos 0)) (λ (d : CutRow). term_of j d.terms) cuts c k below;
+      }
 
-  some-more : (P Q : Path → LeafKept → Type 0) → ((p : Path) (l : LeafKept) → HasLists F l.kept → P p l → Q p l) → (path : Path) (t : Plain) → HasNodeLists F t → SomeLeaf P path t → SomeLeaf Q path t
-  some-more P Q w path (Leaf l) lists h = w path l lists h
-  some-more P Q w path (Split kept j v left right) lists (inl h) = inl (some-more P Q w (left_path path j v) left lists.1.0 h)
-  some-more P Q w path (Split kept j v left right) lists (inr h) = inr (some-more P Q w (right_path path j v) right lists.1.1 h)
-
-  queue-more : (t : Plain) (queue : LeafQueue) → HasNodeLists F t → IsQueueOf F t queue → IsQueueOf G t queue
-  queue-more t queue lists h = record {
-    each = each-more F c (IsQueued F queue) (IsQueued G queue) (queued-more queue) t lists h.each;
-    only = λ d has. some-more (λ p l. IsCandidate F (region_leaf (p, l)) d) (λ p l. IsCandidate G (region_leaf (p, l)) d) (λ p l own is. candidate-more p l d own is) [] t lists (h.only d has);
-  }
+-- a further cut is none that a list names
+quiet-cut : (F : Formulation) (c : CutRow) → IsQuietChange Nothing F (formulation F.model (F.cuts ++ c ∷ []))
+quiet-cut F c = record {
+  model = alike-self F.model;
+  cuts = cuts-alike F.cuts c;
+  costs = λ j. refl;
+  columns = λ j. refl;
+  rows = λ i below. refl;
+  lives = live-more F.cuts c;
+}
 
 -- ---- the search
 
 pub indexed-more : (S : PlainSearch) (c : CutRow) (values : List ℚ) (numbers : LeafNumbers) (queue : LeafQueue) → IsCutOf S.model c → length S.cuts < 10000 → IsIndexed S values numbers queue → IsIndexed (search_with_cut S c) values numbers queue
 indexed-more S c values numbers queue is room h =
     let F = formulation_of S in
+    let G : Formulation = formulation S.model (S.cuts ++ c ∷ []) in
     let t = S.tree.root in
     let lists = h.sound.tree.lists in
     let best = target S.model S.points in
     let count = length_push S.cuts c in
+    let kept : KeepsIndex F G best t = keeps-index Nothing F G (quiet-cut F c) best t lists h.sound.judged in
     record {
       sound = record {
         tree = record { lawful = h.sound.tree.lawful; narrow = h.sound.tree.narrow; lists = lists-more F c t lists };
-        judged = each-more F c (λ p l. IsJudgedLeaf F best p l.kept) (λ p l. IsJudgedLeaf (formulation S.model (S.cuts ++ c ∷ [])) best p l.kept) (judged-more F c best) t lists h.sound.judged;
+        judged = kept.judged;
         points = h.sound.points;
         few = h.sound.few;
         pool = All-push (IsCutOf S.model) S.cuts c h.sound.pool is;
         few_cuts = omega (arith, count);
       };
       values_are = h.values_are;
-      numbers_are = each-more F c (HasKept F numbers) (HasKept (formulation S.model (S.cuts ++ c ∷ [])) numbers) (kept-more F c numbers) t lists h.numbers_are;
-      queue_is = queue-more F c t queue lists h.queue_is;
+      numbers_are = kept.numbers numbers h.numbers_are;
+      queue_is = kept.queue queue h.queue_is;
     }
 
 -- ---- what `add` of its pool leaves

@@ -105,7 +105,7 @@ none_dropped zero u h = h
 none_dropped (suc n) u h = h
 
 -- no states leave each leaf's
-no_states : (t : Plain) → with_states [] t ≡ t
+pub no_states : (t : Plain) → with_states [] t ≡ t
 no_states (Leaf l) = refl
 no_states (Split kept j v left right) = λ i. Split kept j v (no_states left i) (none_dropped (leaf_count left) right (no_states right) i)
 

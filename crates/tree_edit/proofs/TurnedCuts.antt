@@ -1,6 +1,6 @@
 -- An edit of costs turns no cut: whether a derivation derives does not hang on costs. So each list of multipliers leaves what such
 -- an edit touches.
-use Rattle.std.specs.Prelude.{◌≡◌, ℕ, zero, suc, ◌<◌, Bool, true, false, IsTrue, if◌then◌else◌, not, List, [], ◌∷◌, length, map, pos, Option, None, IsSome}
+use Rattle.std.specs.Prelude.{◌≡◌, ℕ, zero, suc, Bool, true, false, IsTrue, if◌then◌else◌, not, List, [], ◌∷◌, length, map, pos, None, IsSome}
 use Rattle.std.proofs.Common.{refl, sym, ap, subst, ◌∙◌, arith}
 use Rattle.std.proofs.Math.Path.{fun_ext}
 use Rattle.frac128.specs.Rational.{ℚ, int, ◌*ℚ◌, ◌<ℚ◌}
@@ -8,20 +8,19 @@ use Rattle.frac128.specs.Sums.{sum_below}
 use Rattle.checked_sum.specs.Steps.{AllFit}
 use Rattle.lp_model.specs.Cuts.{is_live}
 use Rattle.lp_model.specs.Sides.{needed_side, side_number}
-use Rattle.lp_model.specs.Elements.{of_element, changed_at}
+use Rattle.lp_model.specs.Elements.{changed_at}
 use Rattle.lp_model.specs.Program.{Program, is_integer, lower, upper, coefficient, entry_of}
 use Rattle.lp_model.specs.Edits.{col_place, edited}
 use Rattle.lp_model.specs.declared.types.Col.{Col}
 use Rattle.lp_model.specs.declared.types.CutRow.{CutRow}
 use Rattle.lp_model.specs.declared.types.Derivation.{Derivation}
-use Rattle.lp_model.specs.declared.types.Edit.{Edit}
 use Rattle.lp_model.specs.declared.types.Edit.TheVariants.{SetCost, SetCost2}
 use Rattle.lp_model.specs.declared.types.Literal.{Literal}
 use Rattle.lp_model.specs.declared.types.Var.{Var}
 use Rattle.lp_model.specs.declared.types.Var.TheVariants.{Col as ColOf, Row as RowOf, Cut as CutOf}
 use Rattle.lp_model.proofs.ChangedLaws.{length-changed_at, of_element-changed_at}
 use Rattle.cover_cuts.specs.Answers.{DerivesWithRoom}
-use Rattle.cover_cuts.specs.Covers.{signed_by_side, side_coefficient, side_limit, literal_number, number_else, least_number, contribution_number, AreLiterals, IsPosed, Fails}
+use Rattle.cover_cuts.specs.Covers.{signed_by_side, side_coefficient, side_limit, literal_number, number_else, least_number, contribution_number, AreLiterals}
 use Rattle.cover_cuts.specs.Cuts.{IsCutOf, IsPoolOf}
 use Rattle.leaf_dual.specs.Dual.{Multipliers}
 use Rattle.spared_leaves.specs.declared.touched.Touched.{Touched}
@@ -131,7 +130,7 @@ module _ (M N : Program) (h : AreAlikeInColumns M N) where
 
 -- ---- lists
 
-cut-left : (cuts others : List CutRow) (k : ℕ) → is_live cuts k ≡ is_live others k → leaves_cut cuts others k ≡ true
+pub cut-left : (cuts others : List CutRow) (k : ℕ) → is_live cuts k ≡ is_live others k → leaves_cut cuts others k ≡ true
 cut-left cuts others k same = by (is_live cuts k) (is_live others k) same
   where
     by : (a b : Bool) → a ≡ b → (if a then b else not b) ≡ true

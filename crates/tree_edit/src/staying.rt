@@ -1,17 +1,19 @@
 // A search after an edit of its model that leaves the nodes of the tree: none is copied. All that takes memory comes before the
 // first change.
-ghost use Rattle.std.specs.Prelude.{◌≡◌, ◌+◌, ◌-◌, ◌≤◌, [], true, length, map, IfOk, OnOk, OnErr};
+ghost use Rattle.std.specs.Prelude.{◌≡◌, ◌+◌, ◌-◌, ◌≤◌, [], true, ℕ, IsTrue, length, map, IfOk, OnOk, OnErr};
 ghost use Rattle.lp_model.specs.Edits.{edited, EditFits};
+ghost use Rattle.lp_model.specs.Cuts.{is_live};
 ghost use Rattle.lp_model.specs.Formulations.{formulation};
 ghost use Rattle.spared_leaves.specs.Touched.{touched_by};
 ghost use Rattle.branch_tree.specs.Leaves.{leaf_count, region_leaves};
 ghost use Rattle.branch_tree.specs.Changes.{with_leaf_states};
 ghost use Rattle.cover_cuts.specs.Cuts.{IsPoolOf};
 ghost use Rattle.kept_cuts.specs.Kept.{IsPoolAfter};
+ghost use Rattle.search_parts.specs.Points.{target};
 ghost use Rattle.search_parts.specs.EditedPoints.{point_after, AreKeepable};
 ghost use Rattle.leaf_judging.specs.Totals.{leaves_steps};
 ghost use Rattle.sound_searches.specs.Edited.{HasParts, Follows};
-ghost use Rattle.tree_edit.specs.private.Staying.{leaves_nodes, IsStayCounted, IsStayed};
+ghost use Rattle.tree_edit.specs.private.Staying.{leaves_nodes, TouchesNoList, IsStayCounted, IsStayed};
 
 use crate::search::Search;
 use branch_tree::Tree;
@@ -20,18 +22,49 @@ use frac128::Frac;
 use kept_cuts::pool_after;
 use leaf_dual::Steps;
 use leaf_judging::{Former, Judged, LeafNumbers, LeafQueue, judge_tree};
-use lp_model::{Edit, Model, Point};
-use search_parts::{KeptPoints, kept_points, least_of};
-use spared_leaves::touched_by;
+use lp_model::{CutRow, Edit, Model, Point};
+use search_parts::{KeptPoints, is_same_value, kept_points, least_of};
+use spared_leaves::{Touched, touched_by};
 use std::alloc::AllocError;
 use std::sync::ledger::Ledger;
 
-/// What stands beside a tree whose nodes stay: cuts, points, and the leaves judged.
+/// What stands beside a tree whose nodes stay: cuts, points, and the leaves judged; `None` where each leaf's number, its state and the
+/// queue stay as they are.
 #[derive(Drop)]
 pub(crate) struct Stayed {
     pub(crate) pool: CutPool,
     pub(crate) kept: KeptPoints,
-    pub(crate) judged: Judged,
+    pub(crate) judged: Option<Judged>,
+}
+
+/// Whether as many cuts stand in both lists, and those of each place count in both or in neither.
+fn count_alike(before: &[CutRow], after: &[CutRow]) -> bool
+    ensures { IsTrue result → (k : ℕ) → is_live before.now k ≡ is_live after.now k }
+{
+    if before.len() != after.len() {
+        return false;
+    }
+    for place in 0..before.len() {
+        if before[place].live != after[place].live {
+            return false;
+        }
+    }
+    true
+}
+
+/// Whether no list of multipliers that fits a model can name what is touched: nothing is, or a row that the model does not have.
+fn touches_no_list(touched: &Option<Touched>, model: &Model) -> bool
+    ensures { IsTrue result → TouchesNoList model.now touched.now }
+{
+    match touched {
+        None => false,
+        Some(touched) => match touched {
+            Touched::Nothing => true,
+            Touched::OneRow(row) => row.0 as usize >= model.rows().len(),
+            Touched::OneCost(_) => false,
+            Touched::OneColumn(_) => false,
+        },
+    }
 }
 
 /// Whether each node stays as it is after an edit, and no cut goes with it.
@@ -76,6 +109,23 @@ fn put_kept(
 }
 
 impl Search {
+    /// Whether an edit that touched so much, with the cuts as they derive after it and the best value of then, is seen to leave
+    /// each leaf's number and its state.
+    fn is_quiet(&self, touched: &Option<Touched>, pool: &CutPool, best: &Option<Frac>) -> bool
+        ensures lists { IsTrue result → TouchesNoList self.now.model touched.now }
+        ensures cuts { IsTrue result → (k : ℕ) → is_live self.now.cuts k ≡ is_live pool.now k }
+        ensures target { IsTrue result → best.now ≡ target self.now.model self.now.points }
+    {
+        let before = self.pool.rows();
+        let after = pool.rows();
+        if touches_no_list(touched, &self.model) {
+            if count_alike(before, after) {
+                return is_same_value(best, &self.target());
+            }
+        }
+        false
+    }
+
     /// What stands beside the tree after an edit that leaves its nodes. A leaf whose number the edit can't change keeps it, and
     /// of another one what is kept before the first term that is changed.
     fn stayed<L: Ledger>(
@@ -87,15 +137,16 @@ impl Search {
         requires fits { EditFits self.now.model edit.now }
         requires edited { model.now ≡ edited self.now.model edit.now }
         requires leaves { leaves_nodes edit.now ≡ true }
-        ensures stayed { IfOk result (IsStayed model.now self.now.tree) }
+        ensures stayed { IfOk result (IsStayed self.now model.now) }
         ensures pool { IfOk result (λ s. IsPoolAfter self.now.model edit.now self.now.cuts model.now s.pool) }
         ensures points { IfOk result (λ s. AreKeepable model.now (map (point_after self.now.model edit.now) self.now.points) s.kept.points.items) }
         ensures cuts { IfOk result (λ s. IsPoolOf self.now.model self.now.cuts) }
         ensures rises { OnOk result (steps.old ≤ steps.new) }
         ensures steps { IfOk result (λ s. steps.new ≤ steps.old + leaves_steps (touched_by self.now.model edit.now) self.now.cuts (formulation model.now s.pool) (region_leaves [] self.now.tree.root)) }
     {
+        let touched = touched_by(&self.model, edit);
         let former = Some(Former {
-            touched: touched_by(&self.model, edit),
+            touched,
             model: &self.model,
             pool: &self.pool,
             numbers: &self.numbers,
@@ -105,10 +156,21 @@ impl Search {
             Ok(kept) => {
                 let target = least_of(&kept.values);
                 let _few = pool.rows();
+                if self.is_quiet(&touched, &pool, &target) {
+                    return Ok(Stayed {
+                        pool,
+                        kept,
+                        judged: None,
+                    });
+                }
                 match judge_tree(
                     self.alloc, model, &pool, &target, &former, &self.tree, steps,
                 ) {
-                    Ok(judged) => Ok(Stayed { pool, kept, judged }),
+                    Ok(judged) => Ok(Stayed {
+                        pool,
+                        kept,
+                        judged: Some(judged),
+                    }),
                     Err(error) => {
                         drop(pool);
                         drop(kept);
@@ -125,7 +187,7 @@ impl Search {
 
     /// Goes over to another model with what stands beside the tree there.
     fn put_stayed(&mut self, model: Model, stayed: Stayed)
-        requires { IsStayed model self.old.tree stayed }
+        requires { IsStayed self.old model stayed }
         ensures { HasParts model stayed.pool self.old.tree stayed.kept.points.items self.new }
     {
         self.model = model;
@@ -136,12 +198,11 @@ impl Search {
             stayed.pool,
             stayed.kept,
         );
-        put_judged(
-            &mut self.tree,
-            &mut self.numbers,
-            &mut self.queue,
-            stayed.judged,
-        );
+        let mut judged = stayed.judged;
+        match judged.take() {
+            None => {}
+            Some(judged) => put_judged(&mut self.tree, &mut self.numbers, &mut self.queue, judged),
+        }
     }
 
     /// Goes over to the model after an edit that leaves the nodes of the tree.

@@ -8,4 +8,5 @@ walk-requires-clause-whole g c = record {
   rows = λ k below. absurd (omega (arith, below));
   cuts = λ k below. absurd (omega (arith, below));
   next = λ k below. absurd (omega (arith, below));
+  left = λ j below. absurd (omega (arith, below));
 }

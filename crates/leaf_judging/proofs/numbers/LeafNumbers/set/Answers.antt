@@ -1,11 +1,16 @@
+use Rattle.std.specs.Prelude.{box_value}
 use Rattle.std.specs.BTreeMap.{get}
+use Rattle.std.specs.Option.{option_map}
 use Rattle.std.specs.Ordering.{nat_cmp}
+use Rattle.std.proofs.Common.{ap}
 use Rattle.leaf_judging.specs.Numbers.{kept_entry}
-use Rattle.leaf_judging.proofs.NumberLemmas.{apart-id, ok-where-some}
+use Rattle.leaf_judging.proofs.NumberLemmas.{apart-id, some-held}
 use Rattle.leaf_judging.proofs.numbers.LeafNumbers.set.Goals as goal
+
+pub put_over-requires : goal.put_over-requires
+unfolding kept_entry
+put_over-requires c = some-held (get nat_cmp c.args.self.now.kept c.args.id) c.requires
 
 pub returns : goal.returns
 unfolding kept_entry
-returns c =
-    let updates = ok-where-some c.insert.result (get nat_cmp c.args.self.now.kept c.args.id) c.insert.ensures.absent c.requires c.insert.ensures.updates in
-    (updates.1, λ i ne. updates.2 i (apart-id c.args.id i ne))
+returns c = (c.put_over.ensures.value, λ i ne. ap (option_map box_value) (c.put_over.ensures.others i (apart-id c.args.id i ne)))

@@ -1,5 +1,5 @@
 use Rattle.leaf_judging.proofs.LikeEntries.{front-ready, all-ready, all-answer}
-use Rattle.leaf_judging.proofs.entry.list_number.Goals as goal
+use Rattle.leaf_judging.proofs.optional.list_number.Goals as goal
 
 pub go_on-requires-clause-true_of : goal.go_on-requires-clause-true_of
 go_on-requires-clause-true_of g c =
