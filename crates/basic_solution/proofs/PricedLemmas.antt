@@ -25,6 +25,7 @@ priced_none s rows numbers = record {
   size = omega arith;
   numbers_size = omega arith;
   within = λ j q. absurd (omega (arith, q));
+  columns = λ j q. absurd (omega (arith, q));
   small = λ j q. absurd (omega (arith, q));
   costs = λ j q. absurd (omega (arith, q));
   others = λ i q. absurd (omega (arith, q));
@@ -45,6 +46,7 @@ priced_skip s r n rows numbers h none = record {
   size = h.size;
   numbers_size = h.numbers_size;
   within = λ j q. let w = h.within j q in omega (arith, w);
+  columns = h.columns;
   small = h.small;
   costs = h.costs;
   others = λ i q. below_more (λ i. (row_cost s i ≡ int (pos 0)) ⊎ ((j : ℕ) × ((j < n) × (get_or rows j 0 ≡ i)))) r h.others (inl none) i q;
@@ -78,12 +80,14 @@ module _ (s : Held) (r n : ℕ) (rows : List ℕ) (numbers : List ℤ) (number :
   sum_same : (f : ℕ → ℚ) → listed rows' f n ≡ listed rows f n
   sum_same f = sum_below-same n _ _ (λ j q. ap (λ i. row_cost s i *ℚ f i) (row_same j q))
 
-  pub priced_push : ArePricedTo s r rows numbers n → IsSmallNumber number → row_cost s r ≡ int number → ArePricedTo s (r + 1) rows' numbers' (n + 1)
-  priced_push h small cost = record {
+  pub priced_push : ArePricedTo s r rows numbers n → (table s).basic r < s.tableau.columns → IsSmallNumber number → row_cost s r ≡ int number → ArePricedTo s (r + 1) rows' numbers' (n + 1)
+  priced_push h column small cost = record {
     few = let w = h.few in omega (arith, w);
     size = let e = length-set rows n r in omega (arith, e, room);
     numbers_size = let e = length-set numbers n number in omega (arith, e, numbers_room);
     within = below_more (λ j. get_or rows' j 0 < r + 1) n (λ j q. let w = h.within j q in let e = row_same j q in omega (arith, w, e)) (let e = row_here in omega (arith, e));
+    columns = below_more (λ j. (table s).basic (get_or rows' j 0) < s.tableau.columns) n
+        (λ j q. subst (λ i. (table s).basic i < s.tableau.columns) (sym (row_same j q)) (h.columns j q)) (subst (λ i. (table s).basic i < s.tableau.columns) (sym row_here) column);
     small = below_more (λ j. IsSmallNumber (whole_number_at numbers' j)) n (λ j q. subst IsSmallNumber (sym (number_same j q)) (h.small j q)) (subst IsSmallNumber (sym number_here) small);
     costs = below_more (λ j. row_cost s (get_or rows' j 0) ≡ int (whole_number_at numbers' j)) n
         (λ j q. ap (row_cost s) (row_same j q) ∙ h.costs j q ∙ ap int (sym (number_same j q)))

@@ -1,6 +1,7 @@
 pub mod Held
 pub mod Breach
 pub mod Numbers
+pub mod RowNumbers
 pub mod RowTotals
 pub mod CutTotals
 pub mod Standing

@@ -10,12 +10,13 @@ use Rattle.basic_solution.specs.RowTotals.{IsSmallNumber}
 abbrev pub row_cost : Held → ℕ → ℚ
 row_cost s i = (relaxation s).cost ((table s).basic i)
 
--- the first n rows are those below r whose basic variable has a cost, and the numbers are these costs
+-- the first n rows are those below r whose basic variable has a cost, each a column, and the numbers are these costs
 pub record ArePricedTo (s : Held) (r : ℕ) (rows : List ℕ) (numbers : List ℤ) (n : ℕ) : Type 0 where
   pub few : n ≤ r
   pub size : n ≤ length rows
   pub numbers_size : n ≤ length numbers
   pub within : (j : ℕ) → j < n → get_or rows j 0 < r
+  pub columns : (j : ℕ) → j < n → (table s).basic (get_or rows j 0) < s.tableau.columns
   pub small : (j : ℕ) → j < n → IsSmallNumber (whole_number_at numbers j)
   pub costs : (j : ℕ) → j < n → row_cost s (get_or rows j 0) ≡ int (whole_number_at numbers j)
   pub others : (i : ℕ) → i < r → (row_cost s i ≡ int (pos 0)) ⊎ ((j : ℕ) × ((j < n) × (get_or rows j 0 ≡ i)))

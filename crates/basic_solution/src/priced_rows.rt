@@ -6,6 +6,7 @@ ghost use Rattle.basic_solution.specs.Priced.{ArePriced};
 
 use crate::row_totals::with_product;
 use crate::sided::SidedBasis;
+use table_entries::flat_index;
 use whole_sums::product;
 
 /// The rows whose basic variable has a cost, beside them these costs, and how many there are, where that is known
@@ -19,16 +20,21 @@ pub struct PricedRows<'a> {
 
 impl SidedBasis<'_> {
     /// Writes the rows whose basic variable has a cost, beside them these costs, and answers how many there are. None where a list is
-    /// too short or a cost is no small whole number; then the lists are of no meaning.
+    /// too short, a cost is no small whole number, or one is that of an activity; then the lists are of no meaning.
     pub fn write_priced(&self, rows: &mut [usize], numbers: &mut [i64]) -> Option<usize>
         ensures { IfSome result (λ n. ArePriced self.now rows.new numbers.new n) }
     {
+        let columns = self.tableau.columns();
         let mut count = 0;
         for row in 0..self.tableau.activities() {
-            let Some(number) = self.cost.small_of(self.tableau.basic(row)) else {
+            let variable = self.tableau.basic(row);
+            let Some(number) = self.cost.small_of(variable) else {
                 return None;
             };
             if number != 0 {
+                if columns <= variable {
+                    return None;
+                }
                 if rows.len() <= count {
                     return None;
                 }
@@ -62,13 +68,15 @@ impl SidedBasis<'_> {
         let Some(start) = self.cost.small_of(self.tableau.nonbasic(place)) else {
             return None;
         };
-        let _few = self.tableau.columns();
+        let Some(entries) = self.tableau.numbers_over(denominator) else {
+            return None;
+        };
+        let columns = self.tableau.columns();
+        let activities = self.tableau.activities();
         let mut total = product(start, denominator);
         for turn in 0..count {
-            let Some(factor) = self.tableau.number_over(rows[turn], place, denominator) else {
-                return None;
-            };
-            total = with_product(total, factor, numbers[turn]);
+            let at = flat_index(activities, columns, rows[turn], place);
+            total = with_product(total, entries[at], numbers[turn]);
         }
         Some(total)
     }

@@ -7,6 +7,7 @@ ghost use Rattle.row_tableau.specs.Dense.{HasFullLists};
 ghost use Rattle.row_tableau.specs.Variables.{variable_number};
 ghost use Rattle.table_entries.specs.WholeSteps.{IsShort};
 ghost use Rattle.basic_solution.specs.Held.{IsSided, table, variables};
+ghost use Rattle.basic_solution.specs.RowNumbers.{AreRowNumbers};
 
 use crate::priced::Costs;
 use frac128::Frac;
@@ -126,6 +127,18 @@ impl SidedBasis<'_> {
         ensures value { IfSome result (λ n. (table self.now).entry row place ≡ quotient_of n denominator) }
     {
         self.tableau.number_over(row, place, denominator)
+    }
+
+    /// The numbers of the entries of a row over this denominator, by place, if the row is written and they are kept so.
+    #[inline]
+    pub fn row_over(&self, row: usize, denominator: i64) -> Option<&[i64]>
+        requires { row < self.now.tableau.activities }
+        ensures { IfSome result (λ r. AreRowNumbers self.now row denominator r.now) }
+    {
+        match self.tableau.row_over(row, denominator) {
+            Some(entries) => Some(entries),
+            None => None,
+        }
     }
 
     /// Where the variable of a place stands.

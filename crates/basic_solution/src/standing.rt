@@ -3,6 +3,7 @@ ghost use Rattle.std.specs.Prelude.{◌≡◌, ◌<◌, ◌≤◌, ◌<ℤ◌, �
 ghost use Rattle.table_entries.specs.WholeSteps.{IsShort};
 ghost use Rattle.basic_solution.specs.Held.{table, variables};
 ghost use Rattle.basic_solution.specs.Numbers.{IsRowBreach};
+ghost use Rattle.basic_solution.specs.RowNumbers.{AreRowNumbers};
 ghost use Rattle.basic_solution.specs.Standing.{AreStanding, AreStandingTo, listed_number};
 ghost use Rattle.basic_solution.specs.private.Numbers.{IsBasicValueAnswer};
 ghost use Rattle.basic_solution.specs.private.RowTotals.{IsRowTotal};
@@ -75,10 +76,40 @@ impl SidedBasis<'_> {
         Some(count)
     }
 
-    /// The value of the basic variable of a row times the denominator, by the variables that stand at other numbers than 0, where
-    /// the entries are numbers over it and those numbers small: then each sum of the terms has room, in any order. None says nothing
-    /// of the value.
-    pub(crate) fn standing_total(
+    /// The value of the basic variable of a row times the denominator, by the variables that stand at other numbers than 0 and the
+    /// numbers of the row's entries over it, where the variables' numbers are small: then each sum of the terms has room, in any
+    /// order. None says nothing of the value.
+    fn standing_total_of(
+        &self,
+        row: usize,
+        denominator: i64,
+        entries: &[i64],
+        places: &[usize],
+        numbers: &[i64],
+        count: usize,
+    ) -> Option<i128>
+        requires row { row < self.now.tableau.activities }
+        requires positive { pos 0 <ℤ denominator }
+        requires denominator { IsShort denominator }
+        requires entries { AreRowNumbers self.now row denominator entries.now }
+        requires standing { AreStanding self.now places.now numbers.now count }
+        ensures { IfSome result (λ total. IsRowTotal self.now row denominator total) }
+    {
+        let _few = self.tableau.columns();
+        let mut total: i128 = 0;
+        for turn in 0..count {
+            let number = numbers[turn];
+            if !is_small(number) {
+                return None;
+            }
+            let at = places[turn];
+            total = with_product(total, entries[at], number);
+        }
+        Some(total)
+    }
+
+    /// The same, entry by entry, where the row may not be written.
+    fn standing_total_by_entries(
         &self,
         row: usize,
         denominator: i64,
@@ -105,6 +136,36 @@ impl SidedBasis<'_> {
             total = with_product(total, factor, number);
         }
         Some(total)
+    }
+
+    /// The value of the basic variable of a row times the denominator, by the variables that stand at other numbers than 0, where
+    /// the entries are numbers over it and those numbers small: then each sum of the terms has room, in any order. None says nothing
+    /// of the value.
+    pub(crate) fn standing_total(
+        &self,
+        row: usize,
+        denominator: i64,
+        places: &[usize],
+        numbers: &[i64],
+        count: usize,
+    ) -> Option<i128>
+        requires row { row < self.now.tableau.activities }
+        requires positive { pos 0 <ℤ denominator }
+        requires denominator { IsShort denominator }
+        requires standing { AreStanding self.now places.now numbers.now count }
+        ensures { IfSome result (λ total. IsRowTotal self.now row denominator total) }
+    {
+        match self.row_over(row, denominator) {
+            Some(entries) => self.standing_total_of(
+                row,
+                denominator,
+                entries,
+                places,
+                numbers,
+                count,
+            ),
+            None => self.standing_total_by_entries(row, denominator, places, numbers, count),
+        }
     }
 
     /// The value of the basic variable of a row, by the variables that stand at other numbers than 0, term by term, or the first of

@@ -1,9 +1,10 @@
 -- What is said of the value of a tableau, from what is said of its entries in parts.
-use Rattle.std.specs.Prelude.{◌≡◌, ℕ, ◌+◌, ◌*◌, ◌/◌, ◌%◌, ◌^◌, ◌<◌, ◌≤◌, List, get_or, set, length}
+use Rattle.std.specs.Prelude.{◌≡◌, ℕ, ◌+◌, ◌*◌, ◌/◌, ◌%◌, ◌^◌, ◌<◌, ◌≤◌, List, get_or, set, length, false}
 use Rattle.std.proofs.Common.{sym, ap, subst, ◌∙◌, arith}
 use Rattle.std.proofs.Math.Nat.{mul-le-mul_right}
 use Rattle.table_entries.specs.Steps.{IsFirstWidePivotEntry}
 use Rattle.table_entries.specs.FlatSteps.{FlatFits, dense_entry}
+use Rattle.table_entries.specs.WholeSteps.{is_unwritten}
 use Rattle.table_entries.specs.Listed.{IsExchangedList}
 use Rattle.table_entries.specs.Parts.{Parts, filled, AreColumnsWritten, IsSwap, swapped}
 use Rattle.table_entries.proofs.PivotLemmas.{get_or-updated_twice}
@@ -102,6 +103,18 @@ module _ {columns rows activities : ℕ} {variables positions : List ℕ} {parts
       (subst (λ k. at < k) (λ i. is.entry_rows i * is.entry_columns i) within)
       (λ j less. subst (λ n. FlatFits n row place (filled parts (variable_slots slice)) j) is.entry_columns (earlier j less))
       (λ fits. wide (subst (λ n. FlatFits n row place (filled parts (variable_slots slice)) at) (sym is.entry_columns) fits))
+
+-- ---- the row of a basic column is written
+
+module _ {columns rows activities : ℕ} {variables positions : List ℕ} {parts : Parts} (is : IsLaidOut columns rows activities variables positions parts) {t : Dense} (same : laid_value columns rows activities variables positions parts ≡ t) where
+  pub column_row_written : (i : ℕ) → i < t.activities → (table_of t).basic i < t.columns → is_unwritten parts.unwritten i ≡ false
+  column_row_written i within column =
+      let here : i < activities = subst (λ m. i < m) (sym (ap (λ d. d.activities) same)) within in
+      let basic_column : get_or variables i 0 < columns = subst (λ d. (table_of d).basic i < d.columns) (sym same) column in
+      let slot : variable_slots positions (get_or variables i 0) ≡ i = is.shape.placed.back i (omega (arith, here)) in
+      subst (λ s. is_unwritten parts.unwritten s ≡ false) slot
+      (is.columns_written (get_or variables i 0) (subst (λ n. get_or variables i 0 < n) (sym is.entry_columns) basic_column)
+      (let rows_are = is.entry_rows in omega (arith, slot, here, rows_are)))
 
 -- ---- the entries stay
 

@@ -1,7 +1,8 @@
 -- The ways of rows: what the numbers of a row after an exchange are divided and multiplied by.
-use Rattle.std.specs.Prelude.{◌≡◌, ◌≢◌, ◌-◌, [], ◌∷◌, ◌<ℤ◌, ℤ, pos, ◌-ℤ◌, ◌*ℤ◌, unsigned_abs, Bool, true, false}
-use Rattle.std.proofs.Common.{refl, sym, ap, subst, ◌∙◌, arith}
-use Rattle.std.proofs.lemmas.Int.{ints}
+use Rattle.std.specs.Prelude.{◌≡◌, ◌≢◌, ◌-◌, ◌*◌, ◌^◌, ◌<◌, ◌≤◌, [], ◌∷◌, ◌<ℤ◌, ℤ, pos, ◌-ℤ◌, ◌*ℤ◌, unsigned_abs, Bool, true, false}
+use Rattle.std.proofs.Common.{refl, sym, ap, subst, ◌∙◌, arith, to_z, of_z, w64}
+use Rattle.std.proofs.Math.Nat.{mul-le-mul_right}
+use Rattle.std.proofs.lemmas.Int.{ints, unsigned_abs-mul}
 use Rattle.frac128.specs.Rational.{ℚ, den}
 use Rattle.frac128.specs.IntegerRing.{ring_ℤ, reads_ℤ}
 use Rattle.frac128.specs.Lowest.{reduced-cross}
@@ -9,7 +10,8 @@ use Rattle.frac128.specs.RationalOrder.{product_positive}
 use Rattle.frac128.specs.LowestTerms.{quotient_of}
 use Rattle.frac128.proofs.Terms.{denominator_is}
 use Rattle.table_entries.specs.WholeSteps.{IsShort, magnitude, by_sign}
-use Rattle.table_entries.specs.private.Ways.{IsRatio, IsWay, divided}
+use Rattle.table_entries.specs.private.Ways.{Has32Bits, IsRatio, IsWay, divided}
+use Rattle.table_entries.proofs.ReadLemmas.{short_read}
 use Rattle.table_entries.proofs.WholeLemmas.{by_sign-short, magnitude_positive, signed_ratio}
 
 -- x is the number by the denominator
@@ -134,3 +136,21 @@ scaled_divided true D m q x e u n v none nothing h = h ∙ ap (λ t. t *ℤ q *�
     zero : (d q u : ℤ) → pos 0 *ℤ q *ℤ u ≡ pos 0 *ℤ d *ℤ u
     zero d q u = ring_ℤ (d ∷ q ∷ u ∷ []) {x = pos 0 *ℤ q *ℤ u} {y = pos 0 *ℤ d *ℤ u} (search reads_ℤ depth 9) (search reads_ℤ depth 9) tt
 scaled_divided false D m q x e u n v none nothing h = h ∙ no_factor e q m x u none
+
+-- ---- numbers of 32 bits
+
+pub read_32 : (n : ℤ) → Has32Bits n → to_z w64 (of_z w64 n) ≡ n
+read_32 n h = omega (arith, ints, h)
+
+pub again_32 : (n : ℤ) → Has32Bits n → Has32Bits (to_z w64 (of_z w64 n))
+again_32 n h = subst Has32Bits (sym (read_32 n h)) h
+
+-- what the code sees of a short number has 32 bits
+pub has_32_read : (n : ℤ) → IsShort n → Has32Bits (to_z w64 (of_z w64 n)) → Has32Bits n
+has_32_read n short h = subst Has32Bits (short_read n short) h
+
+pub slim_product : (a b : ℤ) → Has32Bits a → Has32Bits b → unsigned_abs (a *ℤ b) < 2 ^ 62
+slim_product a b h k =
+    let least : unsigned_abs a ≤ 2 ^ 31 - 1 = omega (arith, h) in
+    let left : unsigned_abs a * unsigned_abs b ≤ (2 ^ 31 - 1) * unsigned_abs b = mul-le-mul_right (unsigned_abs b) least in
+    rw unsigned_abs-mul (omega (arith, left, k))

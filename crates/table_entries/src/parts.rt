@@ -15,7 +15,7 @@ ghost use Rattle.table_entries.specs.private.Parts.{IsLight, IsRowTouched, IsRow
 
 use crate::entries::flat_index;
 use crate::table_entries::{TableEntries, fraction, is_nothing};
-use crate::wholes::{are_within, is_below};
+use crate::wholes::{are_within, is_below, row_of};
 use frac128::Frac;
 use std::alloc::{AllocError, Global};
 
@@ -496,6 +496,34 @@ impl PartEntries {
             return None;
         }
         self.entries.number_over(flat_index(self.rows, self.columns, row, place), denominator)
+    }
+
+    /// The numbers of a row over this denominator, if it is written and its entries are kept so.
+    #[inline]
+    pub fn row_over(&self, row: usize, denominator: i64) -> Option<&[i64]>
+        requires { row < self.now.rows }
+        ensures length { IfSome result (λ r. length r.now ≡ self.now.columns) }
+        ensures short { IfSome result (λ r. AreShort r.now) }
+        ensures value { IfSome result (λ r. (slots : ℕ → ℕ) (k : ℕ) → k < self.now.columns → dense_entry self.now.columns (filled self.now slots) row k ≡ quotient_of (whole_number_at r.now k) denominator) }
+    {
+        if self.unwritten[row] {
+            return None;
+        }
+        match self.entries.numbers_over(denominator) {
+            Some(numbers) => Some(row_of(self.rows, self.columns, row, numbers)),
+            None => None,
+        }
+    }
+
+    /// The numbers of all rows over this denominator, row by row, if the entries are kept so. Those of a row that is not written are
+    /// of no meaning.
+    #[inline]
+    pub fn numbers_over(&self, denominator: i64) -> Option<&[i64]>
+        ensures length { IfSome result (λ r. length r.now ≡ self.now.rows * self.now.columns) }
+        ensures short { IfSome result (λ r. AreShort r.now) }
+        ensures value { IfSome result (λ r. (slots : ℕ → ℕ) (i k : ℕ) → i < self.now.rows → k < self.now.columns → is_unwritten self.now.unwritten i ≡ false → dense_entry self.now.columns (filled self.now slots) i k ≡ quotient_of (whole_number_at r.now (i * self.now.columns + k)) denominator) }
+    {
+        self.entries.numbers_over(denominator)
     }
 
     /// Writes a row that is not written, and tells whether that stands: it does where its numbers are below the limit.

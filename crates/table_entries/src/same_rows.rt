@@ -10,6 +10,9 @@ use crate::wholes::{Inverse, exchanged_number, is_unwritten, take_row, way_of, w
 /// For so many places of the leaving row the next entry is noted. Behind them each place is gone to.
 const MOST_PLACES: usize = 1_024;
 
+/// Tables of at most so many places take a shorter list, of which fewer bytes are cleared.
+const FEW_PLACES: usize = 128;
+
 /// Whether a row has no entry at a place.
 fn is_nothing_at(rows: usize, columns: usize, row: usize, place: usize, numbers: &[i64]) -> bool
     requires row { row < rows }
@@ -210,6 +213,53 @@ fn write_row_over_same(
     )
 }
 
+/// Writes the numbers after an exchange over the same denominator into `next`, those of rows that are not written left out. A list
+/// takes the next entries of the leaving row. False where a number can't be had.
+fn write_rows_over_same(
+    rows: usize,
+    columns: usize,
+    row: usize,
+    place: usize,
+    denominator: i64,
+    numbers: &[i64],
+    unwritten: &[bool],
+    nexts: &mut [usize],
+    next: &mut [i64],
+) -> bool
+    requires row { row < rows }
+    requires place { place < columns }
+    requires size { length numbers.now ≡ rows * columns }
+    requires room { length next.old ≡ rows * columns }
+    requires positive { pos 0 <ℤ denominator }
+    requires denominator { IsShort denominator }
+    requires short { AreShort numbers.now }
+    requires next { AreShort next.old }
+    requires some { whole_number_at numbers.now (row * columns + place) ≢ pos 0 }
+    ensures written { IsTrue result → AreWritten columns row place denominator denominator numbers.now unwritten.now next.new (rows * columns) }
+    ensures short { AreShort next.new }
+{
+    let known = columns.min(nexts.len());
+    write_next_entries(rows, columns, row, numbers, known, nexts);
+    for at_row in 0..rows {
+        if !write_row_over_same(
+            rows,
+            columns,
+            row,
+            place,
+            denominator,
+            numbers,
+            unwritten,
+            nexts,
+            known,
+            at_row,
+            next,
+        ) {
+            return false;
+        }
+    }
+    true
+}
+
 /// Writes the numbers after an exchange over the same denominator into `next`, those of rows that are not written left out. False
 /// where one can't be had.
 pub fn write_over_same(
@@ -234,11 +284,9 @@ pub fn write_over_same(
     ensures written { IsTrue result → AreWritten columns row place denominator denominator numbers.now unwritten.now next.new (rows * columns) }
     ensures short { AreShort next.new }
 {
-    let mut nexts = [0_usize; MOST_PLACES];
-    let known = columns.min(MOST_PLACES);
-    write_next_entries(rows, columns, row, numbers, known, &mut nexts);
-    for at_row in 0..rows {
-        if !write_row_over_same(
+    if columns <= FEW_PLACES {
+        let mut nexts = [0_usize; FEW_PLACES];
+        return write_rows_over_same(
             rows,
             columns,
             row,
@@ -246,13 +294,20 @@ pub fn write_over_same(
             denominator,
             numbers,
             unwritten,
-            &nexts,
-            known,
-            at_row,
+            &mut nexts,
             next,
-        ) {
-            return false;
-        }
+        );
     }
-    true
+    let mut nexts = [0_usize; MOST_PLACES];
+    write_rows_over_same(
+        rows,
+        columns,
+        row,
+        place,
+        denominator,
+        numbers,
+        unwritten,
+        &mut nexts,
+        next,
+    )
 }

@@ -265,6 +265,20 @@ impl TableEntries {
         }
     }
 
+    /// The numbers over this denominator, if the entries are kept so.
+    #[inline]
+    pub(crate) fn numbers_over(&self, denominator: i64) -> Option<&[i64]>
+        ensures length { IfSome result (λ r. length r.now ≡ length self.now.list) }
+        ensures short { IfSome result (λ r. AreShort r.now) }
+        ensures value { IfSome result (λ r. (at : ℕ) → get_or self.now.list at (int (pos 0)) ≡ quotient_of (whole_number_at r.now at) denominator) }
+    {
+        if self.is_whole && self.denominator == denominator {
+            Some(self.numbers.as_slice())
+        } else {
+            None
+        }
+    }
+
     /// The number at an index of the list.
     pub(crate) fn number(&self, at: usize) -> i64
         requires whole { self.now.is_whole ≡ true }

@@ -1,8 +1,8 @@
 // Entries that are whole numbers over one common denominator.
-ghost use Rattle.std.specs.Prelude.{◌≡◌, ◌≢◌, ◌<◌, ◌≤◌, ◌+◌, ◌*◌, ◌<ℤ◌, ◌-ℤ◌, ◌*ℤ◌, ℕ, ℤ, pos, true, false, length, IsTrue, IfSome};
+ghost use Rattle.std.specs.Prelude.{◌≡◌, ◌≢◌, ◌<◌, ◌≤◌, ◌+◌, ◌*◌, ◌^◌, ◌<ℤ◌, ◌-ℤ◌, ◌*ℤ◌, ℕ, ℤ, pos, true, false, length, unsigned_abs, IsTrue, IfSome};
 ghost use Rattle.table_entries.specs.WholeSteps.{IsShort, magnitude, by_sign, whole_number_at, is_unwritten, AreShort, AreWritten, AreWithin};
 ghost use Rattle.table_entries.specs.private.LeftRows.{IsWholeLeft, AreLeft};
-ghost use Rattle.table_entries.specs.private.Ways.{IsRatio, IsWay, divided};
+ghost use Rattle.table_entries.specs.private.Ways.{Has32Bits, IsWay32, IsRatio, IsWay, divided};
 
 use crate::entries::flat_index;
 use crate::table_entries::fraction;
@@ -38,6 +38,13 @@ impl Inverse {
             factor = factor.wrapping_mul(2_u64.wrapping_sub(odd.wrapping_mul(factor)));
         }
         Inverse { factor, shift }
+    }
+
+    /// The quotient of a number of 64 bits, where the division is exact.
+    #[inline(always)]
+    fn guess_64(&self, number: i64) -> i64 {
+        let low = (number >> (self.shift % 64)).cast_unsigned();
+        low.wrapping_mul(self.factor).cast_signed()
     }
 
     /// The quotient, where the division is exact and the quotient has 64 bits.
@@ -257,6 +264,98 @@ pub fn scaled(total: i128, way: &Way, inverse: &Inverse) -> Option<i64>
     short_number(product(quotient, way.multiplier))
 }
 
+/// The difference of two products of numbers below this has 64 bits.
+const LIMIT_32: i64 = 1 << 31;
+
+/// Whether the number is so small that the difference of two products of such numbers has 64 bits.
+#[inline(always)]
+fn has_32_bits(number: i64) -> bool
+    ensures { IsTrue result → Has32Bits number }
+{
+    -LIMIT_32 < number && number < LIMIT_32
+}
+
+/// Whether two numbers have 32 bits, by one test: this is asked of each entry.
+#[inline(always)]
+fn are_32(first: i64, second: i64) -> bool
+    ensures first { IsTrue result → Has32Bits first }
+    ensures second { IsTrue result → Has32Bits second }
+{
+    has_32_bits(first) & has_32_bits(second)
+}
+
+/// The product of two numbers that are so small.
+#[inline(always)]
+fn product_64(first: i64, second: i64) -> i64
+    requires first { Has32Bits first }
+    requires second { Has32Bits second }
+    ensures value { result ≡ first *ℤ second }
+    ensures small { unsigned_abs result < 2 ^ 62 }
+{
+    first * second
+}
+
+/// Whether the numbers of a way have 32 bits, and nothing is multiplied.
+#[inline(always)]
+fn is_way_32(way: &Way) -> bool
+    requires factor { IsShort way.now.factor }
+    requires scale { IsShort way.now.scale }
+    requires divisor { IsShort way.now.divisor }
+    ensures { IsTrue result → IsWay32 way.now.factor way.now.scale way.now.divisor way.now.multiplier }
+{
+    if way.multiplier != 1 {
+        return false;
+    }
+    if !has_32_bits(way.factor) {
+        return false;
+    }
+    if !has_32_bits(way.scale) {
+        return false;
+    }
+    has_32_bits(way.divisor)
+}
+
+/// What is divided where the numbers have 32 bits.
+#[inline(always)]
+fn total_64(way: &Way, in_row: i64, entry: i64) -> i64
+    requires factor { Has32Bits way.now.factor }
+    requires scale { Has32Bits way.now.scale }
+    requires in_row { Has32Bits in_row }
+    requires entry { Has32Bits entry }
+    ensures value { result ≡ entry *ℤ way.now.scale -ℤ way.now.factor *ℤ in_row }
+    ensures small { unsigned_abs result < 2 ^ 63 }
+{
+    let whole = product_64(entry, way.scale);
+    let taken = product_64(way.factor, in_row);
+    whole - taken
+}
+
+/// The number of an entry outside the entering place after the exchange, where the numbers have 32 bits. None says nothing of it.
+#[inline(always)]
+fn number_64(way: &Way, inverse: &Inverse, in_row: i64, entry: i64) -> Option<i64>
+    requires factor { IsShort way.now.factor }
+    requires scale { IsShort way.now.scale }
+    requires divisor { IsShort way.now.divisor }
+    requires in_row { IsShort in_row }
+    requires entry { IsShort entry }
+    ensures short { IfSome result (λ n. IsShort n) }
+    ensures product { IfSome result (λ n. n *ℤ way.now.divisor ≡ (entry *ℤ way.now.scale -ℤ way.now.factor *ℤ in_row) *ℤ way.now.multiplier) }
+{
+    if !is_way_32(way) {
+        return None;
+    }
+    if !are_32(in_row, entry) {
+        return None;
+    }
+    let total = total_64(way, in_row, entry);
+    let quotient = inverse.guess_64(total);
+    if !has_32_bits(quotient) {
+        return None;
+    }
+    let back = product_64(quotient, way.divisor);
+    if back == total { Some(quotient) } else { None }
+}
+
 /// The number of an entry after the exchange, by the numbers of the entry of the leaving row and of the entry before. None where a
 /// division is not exact, or where the number is not short.
 #[inline(always)]
@@ -283,6 +382,9 @@ pub fn exchanged_number(
     }
     if is_kept(way, in_row, entry) {
         return Some(entry);
+    }
+    if let Some(number) = number_64(way, inverse, in_row, entry) {
+        return Some(number);
     }
     let whole = product(entry, way.scale);
     let taken = product(way.factor, in_row);
@@ -430,6 +532,19 @@ pub fn take_row(rows: usize, columns: usize, row: usize, next: &[i64], numbers: 
     let start = row * columns;
     let end = start + columns;
     numbers[start..end].copy_from_slice(&next[start..end]);
+}
+
+/// The numbers of a row.
+#[inline]
+pub fn row_of(rows: usize, columns: usize, row: usize, numbers: &[i64]) -> &[i64]
+    requires row { row < rows }
+    requires size { length numbers.now ≡ rows * columns }
+    ensures length { length result.now ≡ columns }
+    ensures numbers { (k : ℕ) → k < columns → whole_number_at result.now k ≡ whole_number_at numbers.now (row * columns + k) }
+{
+    let start = row * columns;
+    let end = start + columns;
+    &numbers[start..end]
 }
 
 /// Copies the rows that are not left alone.

@@ -1,6 +1,17 @@
 -- How the numbers of a row after an exchange come from those before it.
-use Rattle.std.specs.Prelude.{◌≡◌, ◌<ℤ◌, Bool, true, false, ℤ, pos, ◌-ℤ◌, ◌*ℤ◌}
+use Rattle.std.specs.Prelude.{◌≡◌, ◌<◌, ◌^◌, ◌<ℤ◌, Bool, true, false, ℤ, pos, ◌-ℤ◌, ◌*ℤ◌, unsigned_abs}
 use Rattle.table_entries.specs.WholeSteps.{IsShort, magnitude, by_sign}
+
+-- the difference of two products of such numbers has 64 bits
+abbrev pub Has32Bits : ℤ → Type 0
+Has32Bits n = unsigned_abs n < 2 ^ 31
+
+-- a way is gone in 64 bits where its numbers are such, and nothing is multiplied
+pub record IsWay32 (factor scale divisor multiplier : ℤ) : Type 0 where
+  pub factor_32 : Has32Bits factor
+  pub scale_32 : Has32Bits scale
+  pub divisor_32 : Has32Bits divisor
+  pub multiplier_one : multiplier ≡ pos 1
 
 -- a / b is the number by the denominator
 pub record IsRatio (number denominator a b : ℤ) : Type 0 where

@@ -1,4 +1,6 @@
-use Rattle.std.proofs.Common.{◌≡◌, ◌≤◌, ◌+◌, subst, arith, Some, None, Ok}
+use Rattle.std.proofs.Common.{◌≡◌, ◌≤◌, ◌+◌, ◌<ℤ◌, sym, subst, arith, Some, None, Ok, pos, to_z, of_z, w64}
+use Rattle.std.proofs.lemmas.Option.{IfSome_then}
+use Rattle.table_entries.proofs.ReadLemmas.{short_read}
 use Rattle.dual_simplex.specs.private.BestPlaces.{IsBestBelow}
 use Rattle.dual_simplex.proofs.EnterLemmas.{none_entered, wide_among, best_of_all}
 use Rattle.dual_simplex.proofs.entering.entering.Goals as goal
@@ -8,6 +10,13 @@ loop-place-init c = none_entered c.args.state.now c.args.row c.args.side
 
 pub loop-place-preserved : goal.loop-place-preserved
 loop-place-preserved c = c.in-Ok.ensures
+
+pub with_place-requires-clause-entries : goal.with_place-requires-clause-entries
+with_place-requires-clause-entries c =
+    let d = c.denominator.result in
+    let d_is : to_z w64 (of_z w64 d) ≡ d = short_read d c.denominator.ensures.short in
+    let positive : pos 0 <ℤ to_z w64 (of_z w64 d) = subst (λ y. pos 0 <ℤ y) (sym d_is) c.denominator.ensures.positive in
+    IfSome_then c.row_over-entries.result c.row_over-entries.ensures (λ r are. (to_z w64 (of_z w64 d), (positive, are)))
 
 pub with_place-requires-clause-found : goal.with_place-requires-clause-found
 with_place-requires-clause-found c = c.loop-place.invariant

@@ -1,8 +1,15 @@
 use Rattle.std.proofs.Common.{◌∙◌, sym, subst, Ok}
 use Rattle.std.proofs.lemmas.Bool.{false≢true}
 use Rattle.dual_simplex.specs.private.BestPlaces.{IsBestBelow}
-use Rattle.dual_simplex.proofs.EnterLemmas.{skip_best, first_place}
+use Rattle.basic_solution.specs.Held.{state, table}
+use Rattle.dual_simplex.proofs.EnterLemmas.{may_some, skip_best, first_place}
 use Rattle.dual_simplex.proofs.entering.with_place.Goals as goal
+
+pub returns-then-has_no_entry : goal.returns-then-has_no_entry
+returns-then-has_no_entry c =
+    let s = c.args.state.now in
+    skip_best s c.args.row c.args.side c.args.place c.args.found
+    (λ may. may_some c.args.side ((state s).stand c.args.place) ((table s).entry c.args.row c.args.place) may (c.has_no_entry.ensures c.if-has_no_entry.true)) c.requires.found
 
 pub returns-then-not-may_enter : goal.returns-then-not-may_enter
 returns-then-not-may_enter c =

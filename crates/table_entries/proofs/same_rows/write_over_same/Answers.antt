@@ -1,38 +1,28 @@
-use Rattle.std.proofs.Common.{subst₂, arith, ◌<◌, ◌≤◌, ◌*◌}
-use Rattle.std.proofs.Math.Nat.{mul-le-mul_right}
+use Rattle.std.proofs.Common.{subst₂}
 use Rattle.table_entries.specs.WholeSteps.{WholeAt, whole_number_at}
 use Rattle.table_entries.proofs.ReadLemmas.{short_read, short_again, positive_again}
 use Rattle.table_entries.proofs.same_rows.write_over_same.Goals as goal
+
+pub write_rows_over_same-requires-clause-positive : goal.write_rows_over_same-requires-clause-positive
+write_rows_over_same-requires-clause-positive c = positive_again c.args.denominator c.requires.denominator c.requires.positive
+
+pub write_rows_over_same-requires-clause-denominator : goal.write_rows_over_same-requires-clause-denominator
+write_rows_over_same-requires-clause-denominator c = short_again c.args.denominator c.requires.denominator
+
+pub write_rows_over_same-requires-2-clause-positive : goal.write_rows_over_same-requires-2-clause-positive
+write_rows_over_same-requires-2-clause-positive c = positive_again c.args.denominator c.requires.denominator c.requires.positive
+
+pub write_rows_over_same-requires-2-clause-denominator : goal.write_rows_over_same-requires-2-clause-denominator
+write_rows_over_same-requires-2-clause-denominator c = short_again c.args.denominator c.requires.denominator
+
+pub returns-then-columns-le-FEW_PLACES-clause-written : goal.returns-then-columns-le-FEW_PLACES-clause-written
+returns-then-columns-le-FEW_PLACES-clause-written c = λ t at less flag.
+    let a = c.args in
+    let d1 = short_read a.denominator c.requires.denominator in
+    subst₂ (λ d g. WholeAt a.columns a.row a.place d g a.numbers.now (whole_number_at c.write_rows_over_same.new.next at) at) d1 d1 (c.write_rows_over_same.ensures.written t at less flag)
 
 pub returns-clause-written : goal.returns-clause-written
 returns-clause-written c = λ t at less flag.
     let a = c.args in
     let d1 = short_read a.denominator c.requires.denominator in
-    let past : a.rows ≤ c.loop-at_row.at_row = c.loop-at_row-test.false in
-    let all : a.rows * a.columns ≤ c.loop-at_row.at_row * a.columns = mul-le-mul_right a.columns past in
-    let inside : at < c.loop-at_row.at_row * a.columns = omega (arith, less, all) in
-    subst₂ (λ d g. WholeAt a.columns a.row a.place d g a.numbers.now (whole_number_at c.loop-at_row.next at) at) d1 d1 (c.loop-at_row.invariant.written at inside flag)
-
-pub loop-at_row-init : goal.loop-at_row-init
-loop-at_row-init c = record { written = λ at less flag. absurd (omega (arith, less)); short = c.requires.next }
-
-pub write_row_over_same-requires-clause-room : goal.write_row_over_same-requires-clause-room
-write_row_over_same-requires-clause-room c = let w = c.loop-at_row.auto.next in let v = c.requires.room in omega (arith, w, v)
-
-pub write_row_over_same-requires-clause-positive : goal.write_row_over_same-requires-clause-positive
-write_row_over_same-requires-clause-positive c = positive_again c.args.denominator c.requires.denominator c.requires.positive
-
-pub write_row_over_same-requires-clause-denominator : goal.write_row_over_same-requires-clause-denominator
-write_row_over_same-requires-clause-denominator c = short_again c.args.denominator c.requires.denominator
-
-pub write_row_over_same-requires-clause-next : goal.write_row_over_same-requires-clause-next
-write_row_over_same-requires-clause-next c = c.loop-at_row.invariant.short
-
-pub write_row_over_same-requires-clause-earlier : goal.write_row_over_same-requires-clause-earlier
-write_row_over_same-requires-clause-earlier c = c.loop-at_row.invariant.written
-
-pub loop-at_row-preserved : goal.loop-at_row-preserved
-loop-at_row-preserved c = record { written = c.write_row_over_same.ensures.written c.if-not-write_row_over_same.false; short = c.write_row_over_same.ensures.short }
-
-pub returns-clause-short : goal.returns-clause-short
-returns-clause-short c = c.loop-at_row.invariant.short
+    subst₂ (λ d g. WholeAt a.columns a.row a.place d g a.numbers.now (whole_number_at c.write_rows_over_same-2.new.next at) at) d1 d1 (c.write_rows_over_same-2.ensures.written t at less flag)

@@ -25,6 +25,23 @@ product-taken-requires-clause-first c = short_again c.args.way.now.factor c.requ
 pub product-taken-requires-clause-second : goal.product-taken-requires-clause-second
 product-taken-requires-clause-second c = short_again c.args.in_row c.requires.in_row
 
+pub number_64-requires-clause-in_row : goal.number_64-requires-clause-in_row
+number_64-requires-clause-in_row c = short_again c.args.in_row c.requires.in_row
+
+pub number_64-requires-clause-entry : goal.number_64-requires-clause-entry
+number_64-requires-clause-entry c = short_again c.args.entry c.requires.entry
+
+pub returns-in-Some-clause-short : goal.returns-in-Some-clause-short
+returns-in-Some-clause-short c = short_again c.in-Some.number c.in-Some.ensures.short
+
+pub returns-in-Some-clause-product : goal.returns-in-Some-clause-product
+returns-in-Some-clause-product c =
+    let a = c.args in
+    let w = a.way.now in
+    ap (λ x. x *ℤ w.divisor) (short_read c.in-Some.number c.in-Some.ensures.short) ∙ c.in-Some.ensures.product
+    ∙ (λ i. (short_read a.entry c.requires.entry i *ℤ w.scale -ℤ w.factor *ℤ short_read a.in_row c.requires.in_row i) *ℤ w.multiplier)
+    ∙ ap (λ b. divided b a.denominator w.factor w.scale a.in_row a.entry *ℤ w.multiplier) (sym c.if-is_place.false)
+
 pub overflow_sub-whole : goal.overflow_sub-whole
 overflow_sub-whole c =
     let a = c.args in

@@ -1,12 +1,12 @@
-use Rattle.std.proofs.Common.{refl, get_or, sym, ap, subst, ◌∙◌, ◌≡◌, ◌<◌, ◌≤◌, ◌+◌, ◌*◌, ◌^◌, ◌<ℤ◌, ◌+ℤ◌, ◌*ℤ◌, pos, unsigned_abs, ℕ, arith, below_more, to_z, of_z, w64}
+use Rattle.std.proofs.Common.{get_or, length, sym, ap, subst, ◌∙◌, ◌≡◌, ◌<◌, ◌≤◌, ◌+◌, ◌*◌, ◌^◌, ◌<ℤ◌, ◌+ℤ◌, ◌*ℤ◌, pos, unsigned_abs, ℕ, arith, below_more, to_z, of_z, w64}
 use Rattle.std.specs.Int.{w128}
 use Rattle.frac128.specs.Rational.{ℚ, int}
 use Rattle.frac128.specs.LowestTerms.{quotient_of}
 use Rattle.checked_sum.specs.Steps.{partial}
 use Rattle.checked_sum.proofs.StepLaws.{partial_none}
 use Rattle.row_tableau.specs.Dense.{table_of}
+use Rattle.row_tableau.proofs.LayoutLemmas.{few_entries}
 use Rattle.table_entries.specs.WholeSteps.{IsShort, whole_number_at}
-use Rattle.table_entries.specs.FlatSteps.{dense_entry}
 use Rattle.whole_sums.specs.Wholes.{IsWholeTerm, HasMargin}
 use Rattle.whole_sums.proofs.SumLemmas.{start_is, total_more, term_of_number}
 use Rattle.basic_solution.specs.Held.{IsSided, relaxation, table, variables}
@@ -50,7 +50,7 @@ product-total-requires-clause-second c = short_again c.args.denominator c.requir
 pub with_product-total-requires-clause-total : goal.with_product-total-requires-clause-total
 with_product-total-requires-clause-total c =
     let before = c.loop-turn.invariant in
-    let few = c.columns-few.ensures.lawful.few in
+    let few = c.columns-columns.ensures.lawful.few in
     let less = c.loop-turn-test.true in
     let most = c.requires.priced.few in
     let columns = ap (λ s. s.tableau.columns) c.self.view_is in
@@ -69,19 +69,29 @@ loop-turn-preserved c =
     let k = c.loop-turn.turn in
     let before = c.loop-turn.invariant in
     let total = to_z w128 c.loop-turn.total-bits in
-    let f = c.in-Some-number_over.factor in
-    let f_short : IsShort f = c.in-Some-number_over.ensures.short in
+    let entries = c.in-Some-numbers_over.entries.now in
+    let at = c.flat_index-at.result in
+    let at_is : at ≡ get_or rows k 0 * c.self.inside.tableau.columns + c.args.place = c.flat_index-at.ensures.value ∙ ap (λ n. get_or rows k 0 * n + c.args.place) c.columns-columns.ensures.value in
+    let inside : at < length entries = let all = c.in-Some-numbers_over.ensures.length in let within = c.flat_index-at.ensures.within in let m = c.activities-activities.ensures in let n = c.columns-columns.ensures.value in
+    subst (λ l. at < l) (sym (all ∙ (λ i. sym m i * sym n i))) within in
+    let f = whole_number_at entries at in
+    let f_short : IsShort f = c.in-Some-numbers_over.ensures.short at inside in
     let n = whole_number_at numbers k in
     let small : IsSmallNumber n = c.requires.priced.small k c.loop-turn-test.true in
     let n_short : IsShort n = small_short n small in
     let d_is : d' ≡ d = short_read d c.requires.denominator in
     let positive : pos 0 <ℤ d' = subst (λ y. pos 0 <ℤ y) (sym d_is) c.requires.positive in
     let d_short : IsShort d' = subst IsShort (sym d_is) c.requires.denominator in
-    let entry_is : x k ≡ dense_entry c.self.inside.tableau.columns c.self.inside.tableau.entries (get_or rows k 0) c.args.place =
-    subst (λ s. (table s).entry (get_or rows k 0) c.args.place ≡ dense_entry c.self.inside.tableau.columns c.self.inside.tableau.entries (get_or rows k 0) c.args.place) c.self.view_is refl in
-    let term : IsWholeTerm d' (a k) (x k) f n = term_of_number (a k) (x k) f n d' positive f_short n_short (c.requires.priced.costs k c.loop-turn-test.true) (entry_is ∙ c.in-Some-number_over.ensures.value) in
-    let few = c.columns-few.ensures.lawful.few in
     let less = c.loop-turn-test.true in
+    let tableau_is = ap (λ s. s.tableau) c.self.view_is in
+    let row_there : get_or rows k 0 < c.self.inside.tableau.activities = subst (λ t. get_or rows k 0 < t.activities) (sym tableau_is) (c.requires.priced.within k less) in
+    let place_there : c.args.place < c.self.inside.tableau.columns = subst (λ t. c.args.place < t.columns) (sym tableau_is) c.requires.place in
+    let column : (table_of c.self.inside.tableau).basic (get_or rows k 0) < c.self.inside.tableau.columns = subst (λ t. (table_of t).basic (get_or rows k 0) < t.columns) (sym tableau_is) (c.requires.priced.columns k less) in
+    let entry_is : x k ≡ quotient_of f d' =
+    subst (λ t. (table_of t).entry (get_or rows k 0) c.args.place ≡ quotient_of f d') tableau_is
+    (c.in-Some-numbers_over.ensures.value (get_or rows k 0) c.args.place row_there place_there column ∙ ap (λ p. quotient_of (whole_number_at entries p) d') (sym at_is)) in
+    let term : IsWholeTerm d' (a k) (x k) f n = term_of_number (a k) (x k) f n d' positive f_short n_short (c.requires.priced.costs k less) entry_is in
+    let few = c.columns-columns.ensures.lawful.few in
     let most = c.requires.priced.few in
     let columns = ap (λ s. s.tableau.columns) c.self.view_is in
     let activities = ap (λ s. s.tableau.activities) c.self.view_is in
@@ -104,7 +114,7 @@ returns c =
     let columns = ap (λ s. s.tableau.columns) c.self.view_is in
     let activities = ap (λ s. s.tableau.activities) c.self.view_is in
     let sided = subst IsSided c.self.view_is c.self.invariant in
-    let few : variables s < 2 ^ 32 = let w = c.columns-few.ensures.lawful.few in omega (arith, w, columns, activities) in
+    let few : variables s < 2 ^ 32 = let w = c.columns-columns.ensures.lawful.few in omega (arith, w, columns, activities) in
     let d = c.args.denominator in
     let d_is : to_z w64 (of_z w64 d) ≡ d = short_read d c.requires.denominator in
     let start = c.in-Some.start in
@@ -124,8 +134,39 @@ returns c =
     (λ j q. inv.terms j (subst (λ i. j < i) (sym all) q)) total (subst (λ i. unsigned_abs total ≤ (i + 1) * 2 ^ 93) all inv.size)
     (inv.value ∙ ap (partial (place_cost s c.args.place) (λ j. row_cost s (get_or rows j 0)) (λ j. (table s).entry (get_or rows j 0) c.args.place)) all))
 
+pub flat_index-at-requires-clause-row : goal.flat_index-at-requires-clause-row
+flat_index-at-requires-clause-row c =
+    let within = c.requires.priced.within c.loop-turn.turn c.loop-turn-test.true in
+    let m = c.activities-activities.ensures in
+    let activities = ap (λ s. s.tableau.activities) c.self.view_is in
+    omega (arith, within, m, activities)
+
+pub flat_index-at-requires-clause-place : goal.flat_index-at-requires-clause-place
+flat_index-at-requires-clause-place c =
+    let within = c.requires.place in
+    let n = c.columns-columns.ensures.value in
+    let columns = ap (λ s. s.tableau.columns) c.self.view_is in
+    omega (arith, within, n, columns)
+
+pub flat_index-at-requires-clause-room : goal.flat_index-at-requires-clause-room
+flat_index-at-requires-clause-room c =
+    let few = c.columns-columns.ensures.lawful.few in
+    let m = c.activities-activities.ensures in
+    let n = c.columns-columns.ensures.value in
+    few_entries c.columns-columns.result c.activities-activities.result (omega (arith, few, m, n))
+
+pub bounds-entries-at : goal.bounds-entries-at
+bounds-entries-at c =
+    let all = c.in-Some-numbers_over.ensures.length in let within = c.flat_index-at.ensures.within in let m = c.activities-activities.ensures in let n = c.columns-columns.ensures.value in
+    subst (λ l. c.flat_index-at.result < l) (sym (all ∙ (λ i. sym m i * sym n i))) within
+
 pub with_product-total-requires-clause-factor : goal.with_product-total-requires-clause-factor
-with_product-total-requires-clause-factor c = short_again c.in-Some-number_over.factor c.in-Some-number_over.ensures.short
+with_product-total-requires-clause-factor c =
+    let entries = c.in-Some-numbers_over.entries.now in
+    let at = c.flat_index-at.result in
+    let inside : at < length entries = let all = c.in-Some-numbers_over.ensures.length in let within = c.flat_index-at.ensures.within in let m = c.activities-activities.ensures in let n = c.columns-columns.ensures.value in
+    subst (λ l. at < l) (sym (all ∙ (λ i. sym m i * sym n i))) within in
+    short_again (whole_number_at entries at) (c.in-Some-numbers_over.ensures.short at inside)
 
 pub with_product-total-requires-clause-number : goal.with_product-total-requires-clause-number
 with_product-total-requires-clause-number c = small_short_again (whole_number_at c.args.numbers.now c.loop-turn.turn) (c.requires.priced.small c.loop-turn.turn c.loop-turn-test.true)

@@ -9,11 +9,11 @@ use Rattle.basic_solution.specs.Priced.{ArePricedTo, row_cost}
 use Rattle.basic_solution.proofs.ReadLemmas.{small_read, small_again}
 use Rattle.basic_solution.proofs.PricedLemmas.{priced_none, priced_skip, priced_push}
 use Rattle.basic_solution.proofs.sided.SidedBasis.write_priced.Goals as goal
-use Rattle.basic_solution.proofs.sided.SidedBasis.write_priced.Goals.{then-number-ne0+else-rows-count+else-numbers-count, else-number-ne0}
+use Rattle.basic_solution.proofs.sided.SidedBasis.write_priced.Goals.{then-number-ne0+else-columns-variable+else-rows-count+else-numbers-count, else-number-ne0}
 
 pub small_of-requires : goal.small_of-requires
 small_of-requires c =
-    let within = c.basic.ensures.within in
+    let within = c.basic-variable.ensures.within in
     let size = c.self.invariant.shape.cost_length in
     omega (arith, within, size)
 
@@ -28,15 +28,16 @@ loop-row-preserved c =
     let number = c.in-Some.number in
     let small : IsSmallNumber number = c.in-Some.ensures.small in
     let read : to_z w64 (of_z w64 number) ≡ number = small_read number small in
-    let variable_is = subst (λ t. c.basic.result ≡ (table_of t).basic r) (ap (λ s. s.tableau) c.self.view_is) c.basic.ensures.value in
-    let cost : row_cost now r ≡ int number = sym (ap (relaxation now).cost variable_is) ∙ ap (λ s. (relaxation s).cost c.basic.result) (sym c.self.view_is) ∙ c.in-Some.ensures.value in
+    let variable_is = subst (λ t. c.basic-variable.result ≡ (table_of t).basic r) (ap (λ s. s.tableau) c.self.view_is) c.basic-variable.ensures.value in
+    let cost : row_cost now r ≡ int number = sym (ap (relaxation now).cost variable_is) ∙ ap (λ s. (relaxation s).cost c.basic-variable.result) (sym c.self.view_is) ∙ c.in-Some.ensures.value in
     elim c.if-number-ne0.branch [
-      | then-number-ne0+else-rows-count+else-numbers-count w ↦
+      | then-number-ne0+else-columns-variable+else-rows-count+else-numbers-count w ↦
           let room : l.count < length l.rows = let long = w.if-rows-count.false in let kept = l.auto.rows in omega (arith, long, kept) in
           let numbers_room : l.count < length l.numbers = let long = w.if-numbers-count.false in let kept = l.auto.numbers in omega (arith, long, kept) in
+          let column : (table now).basic r < now.tableau.columns = (let w2 = w.if-columns-variable.false in let e = c.columns-columns.ensures.value in let same = ap (λ s. s.tableau.columns) c.self.view_is in omega (arith, w2, e, same, variable_is)) in
           record {
             priced = subst₃ (λ p x k. ArePricedTo now (r + 1) p x k) (sym w.rows-is) (sym w.numbers-is) (sym w.count-is)
-                (priced_push now r l.count l.rows l.numbers (to_z w64 (of_z w64 number)) room numbers_room l.invariant.priced (small_again number small) (cost ∙ ap int (sym read)));
+                (priced_push now r l.count l.rows l.numbers (to_z w64 (of_z w64 number)) room numbers_room l.invariant.priced column (small_again number small) (cost ∙ ap int (sym read)));
           }
       | else-number-ne0 w ↦
           let none : number ≡ pos 0 = let e = w.if-number-ne0.false in omega (arith, ints, e, small) in

@@ -5,7 +5,7 @@ use Rattle.checked_sum.specs.Steps.{partial}
 use Rattle.basic_solution.specs.Held.{table}
 use Rattle.basic_solution.specs.RowTotals.{HasSmallTerm}
 use Rattle.basic_solution.specs.Standing.{listed_number}
-use Rattle.basic_solution.proofs.sided.SidedBasis.standing_total.Given as goal
+use Rattle.basic_solution.proofs.sided.SidedBasis.standing_total_by_entries.Given as goal
 
 abbrev pub invariant-loop-turn : goal.invariant-loop-turn
 invariant-loop-turn l = record {
