@@ -1,9 +1,9 @@
 // A leaf's number in whole numbers over one denominator, with one greatest common divisor at its end.
-ghost use Rattle.std.specs.Prelude.{◌≡◌, ◌≢◌, ◌<◌, ◌≤◌, ◌<ℤ◌, ℕ, ℤ, List, pos, length, None, Ok, IfSome};
-ghost use Rattle.frac128.specs.Rational.{int, neg_ℚ, ◌+ℚ◌, ◌*ℚ◌};
+ghost use Rattle.std.specs.Prelude.{◌≡◌, ◌≢◌, ◌<◌, ◌≤◌, ◌<ℤ◌, ℕ, ℤ, List, Option, pos, length, None, Ok, IfSome};
+ghost use Rattle.frac128.specs.Rational.{ℚ, int, neg_ℚ, ◌+ℚ◌, ◌*ℚ◌};
 ghost use Rattle.checked_sum.specs.Steps.{StepFits, AllFit, partial};
 ghost use Rattle.frac128.specs.LowestTerms.{quotient_of};
-ghost use Rattle.lp_model.specs.Regions.{AreNarrow, region_low, region_high};
+ghost use Rattle.lp_model.specs.Regions.{AreNarrow, low_along, high_along, region_low, region_high};
 ghost use Rattle.lp_model.specs.Sides.{needed_side, side_number};
 ghost use Rattle.lp_model.specs.Formulations.{cut_coefficient};
 ghost use Rattle.leaf_dual.specs.declared.dual.LagValue.TheVariants.{Num};
@@ -16,9 +16,10 @@ ghost use Rattle.leaf_dual.specs.Wholes.{IsNextOf, AreNexts};
 ghost use Rattle.leaf_dual.specs.WholeParts.{IsWholeLeaf};
 
 use crate::leaf::Leaf;
+use crate::named_columns::is_unmarked;
 use crate::terms::cut_coefficient;
 use frac128::Frac;
-use lp_model::{Bound, RowId};
+use lp_model::{Bound, BoundChange, RowId};
 use whole_sums::{
     WholeTerm, WholeTerms, quotient, short_number, short_over, whole_number, whole_total,
     with_product,
@@ -26,7 +27,7 @@ use whole_sums::{
 
 /// A leaf, with the numbers of its rows' multipliers and of its cuts' weights over a denominator. For each of the first cuts
 /// that are known the next one, itself included, that has a weight: few have one, and each column's cost is taken over all. Of the
-/// first columns whose number is known what is left of their costs.
+/// first columns whose number is known what is left of their costs. And of the columns that have a mark whether the region names them.
 #[derive(Clone, Copy, Drop)]
 pub struct WholeLeaf<'a> {
     pub leaf: Leaf<'a>,
@@ -37,6 +38,7 @@ pub struct WholeLeaf<'a> {
     pub known: usize,
     pub costs_left: &'a [i64],
     pub costs_known: usize,
+    pub named: &'a [bool],
 }
 
 /// The number at a place, if there is one.
@@ -362,18 +364,36 @@ impl WholeLeaf<'_> {
         short_number(by_cuts)
     }
 
+    /// The changes that a column's bounds are taken of: none where it is known that the region names no such column.
+    #[inline]
+    fn changes_of(&self, col: usize) -> &[BoundChange]
+        requires whole { IsWholeLeaf self.now }
+        requires narrow { AreNarrow self.now.leaf.region.now }
+        ensures narrow { AreNarrow result.now }
+        ensures low { (b : Option ℚ) → low_along result.now col b ≡ low_along self.now.leaf.region.now col b }
+        ensures high { (b : Option ℚ) → high_along result.now col b ≡ high_along self.now.leaf.region.now col b }
+    {
+        if is_unmarked(self.named, col) {
+            &[]
+        } else {
+            self.leaf.region
+        }
+    }
+
     /// The bound of a column that what is left of its cost takes. One bound alone is asked of the region, and none where nothing
     /// is left.
     pub(crate) fn column_side(&self, reduced: i64, col: usize) -> Bound
+        requires whole { IsWholeLeaf self.now }
         requires within { col < length self.now.leaf.model.now.cols }
         requires narrow { AreNarrow self.now.leaf.region.now }
         ensures { (d : ℤ) → pos 0 <ℤ d → result ≡ needed_side (quotient_of reduced d) (region_low self.now.leaf.model.now self.now.leaf.region.now col) (region_high self.now.leaf.model.now self.now.leaf.region.now col) }
     {
+        let changes = self.changes_of(col);
         if reduced > 0 {
-            return self.leaf.model.region_low(self.leaf.region, col);
+            return self.leaf.model.region_low(changes, col);
         }
         if reduced < 0 {
-            return self.leaf.model.region_high(self.leaf.region, col);
+            return self.leaf.model.region_high(changes, col);
         }
         Some(Frac::whole(0))
     }

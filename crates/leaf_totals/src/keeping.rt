@@ -65,6 +65,7 @@ fn walk_in_fractions<L: Ledger>(
         known: 0,
         costs_left: &[],
         costs_known: 0,
+        named: &[],
     };
     walk(totals, &whole, steps)
 }
@@ -83,26 +84,29 @@ fn walk_leaf<L: Ledger>(totals: &mut Totals, leaf: &Leaf<'_>, steps: &mut Steps<
     ensures steps { steps.new ≤ steps.old + terms_behind (question_of leaf.now) (length totals.old.kept) }
 {
     let denominator = common_denominator(leaf.mult);
-    let mut rows = [0_i64; ROW_PLACES];
-    if !write_rows(leaf.mult, denominator, &mut rows) {
-        return walk_in_fractions(totals, leaf, steps);
-    }
-    let mut cuts = [0_i64; CUT_PLACES];
-    if !write_cuts(leaf.cuts, leaf.mult, denominator, &mut cuts) {
+    let mut row_places = [0_i64; ROW_PLACES];
+    let rows = &mut row_places[..leaf.model.rows().len().min(ROW_PLACES)];
+    if !write_rows(leaf.mult, denominator, rows) {
         return walk_in_fractions(totals, leaf, steps);
     }
     let known = leaf.cuts.len().min(CUT_PLACES);
+    let mut cut_places = [0_i64; CUT_PLACES];
+    let cuts = &mut cut_places[..known];
+    if !write_cuts(leaf.cuts, leaf.mult, denominator, cuts) {
+        return walk_in_fractions(totals, leaf, steps);
+    }
     let mut next = [0_usize; CUT_PLACES];
-    write_nexts(&cuts, known, &mut next);
+    write_nexts(cuts, known, &mut next);
     let whole = WholeLeaf {
         leaf: *leaf,
         denominator,
-        rows: &rows,
-        cuts: &cuts,
+        rows,
+        cuts,
         next: &next,
         known,
         costs_left: &[],
         costs_known: 0,
+        named: &[],
     };
     walk(totals, &whole, steps)
 }

@@ -9,4 +9,5 @@ walk-requires-clause-whole g c = record {
   cuts = λ k below. absurd (omega (arith, below));
   next = λ k below. absurd (omega (arith, below));
   left = λ j below. absurd (omega (arith, below));
+  named = λ j below. absurd (omega (arith, below));
 }
