@@ -5,11 +5,9 @@ use Rattle.frac128.specs.Rational.{ℚ}
 use Rattle.lp_model.specs.Program.{Program, Point, is_integer, IsFeasible}
 use Rattle.lp_model.specs.Regions.{InRegion}
 use Rattle.lp_model.specs.Formulations.{Formulation, formulation, IsValid}
-use Rattle.lp_model.specs.declared.types.CutRow.{CutRow}
 use Rattle.branch_tree.specs.Tree.{Tree, Leaf, Split, EachSplit, SplitsLawfully, EachLeaf}
 use Rattle.branch_tree.specs.Plain.{Plain}
 use Rattle.branch_tree.specs.Leaves.{region_leaves}
-use Rattle.branch_tree.specs.Numbered.{NumberedTree}
 use Rattle.branch_tree.proofs.TreeLemmas.{point_in_one_leaf, leaf_with_both}
 use Rattle.leaf_judging.specs.Closing.{ClosesBy}
 use Rattle.search_parts.specs.Points.{IsKeepable, target}
@@ -22,7 +20,7 @@ use Rattle.dual_bounds.specs.declared.answers.LowerBound.TheVariants.{Value, NoV
 use Rattle.dual_bounds.specs.declared.answers.UpperBound.{UpperBound}
 use Rattle.dual_bounds.specs.NewNumbers.{with_new_sides, with_new_costs}
 use Rattle.dual_bounds.specs.declared.new_numbers.OtherNumbers.TheVariants.{Sides, Costs}
-use Rattle.dual_bounds.specs.TreeBounds.{IsTreeBoundAt, IsPointBound, upper_bound}
+use Rattle.dual_bounds.specs.TreeBounds.{IsPointBound, upper_bound}
 use Rattle.dual_bounds.specs.Laws.{IsTrueLowerBound, IsTrueUpperBound, TreeBoundLaw, PointBoundLaw, NewNumbersLaw}
 use Rattle.dual_bounds.proofs.CutLemmas.{pool-valid}
 use Rattle.dual_bounds.proofs.ModelLemmas.{costs-integer}
@@ -79,9 +77,6 @@ new-numbers S (Costs costs) bound sound h =
     tree-bound (formulation M h.again) S.tree.root bound (pool-valid M h.again h.derived.pool) lawful h.is
 
 -- ---- what the calls compute is said of the search
-
-pub tree-bound-of : (made M : Program) (cs ds : List CutRow) (T U : NumberedTree) (bound : LowerBound) → made ≡ M → cs ≡ ds → T ≡ U → IsTreeBoundAt made cs T.root bound → IsTreeBoundAt M ds U.root bound
-tree-bound-of made M cs ds T U bound m c t h = subst (λ P. P) (λ i. IsTreeBoundAt (m i) (c i) (t i).root bound) h
 
 pub point-bound-of : (made M : Program) (xs ys : List Point) (bound : UpperBound) → made ≡ M → xs ≡ ys → IsPointBound made xs bound → IsPointBound M ys bound
 point-bound-of made M xs ys bound m p h = subst (λ P. P) (λ i. IsPointBound (m i) (p i) bound) h

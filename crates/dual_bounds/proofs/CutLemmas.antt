@@ -14,20 +14,20 @@ use Rattle.cover_cuts.specs.Cuts.{cover_terms, cover_high, IsCutOf, IsPoolOf}
 use Rattle.cover_cuts.proofs.CutLaws.{pool-met, pool-terms}
 use Rattle.kept_cuts.specs.Kept.{derivations_of}
 use Rattle.dual_bounds.specs.TreeBounds.{AreDerivedAgain}
+use Rattle.dual_bounds.specs.private.Spared.{AddsAgain}
 
 -- ---- one after the other
 
 pub derived-none : (M : Program) (again : List CutRow) → again ≡ [] → AreDerivedAgain M [] again
 derived-none M again none = subst (AreDerivedAgain M []) (sym none) (record { derivations = refl; pool = λ i d below. absurd (omega arith) })
 
-pub derived-more : (M : Program) (cuts again longer : List CutRow) (cut : CutRow) (d : Derivation) → d ≡ cut.from → AreDerivedAgain M cuts again
-    → (c : CutRow) × ((longer ≡ again ++ c ∷ []) × (c.from ≡ d) × IsCutOf M c) → AreDerivedAgain M (cuts ++ cut ∷ []) longer
-derived-more M cuts again longer cut d own h (c, (is, from, cut_is)) =
+pub derived-more : (M : Program) (cuts again longer : List CutRow) (cut : CutRow) → AreDerivedAgain M cuts again → AddsAgain M cut again longer → AreDerivedAgain M (cuts ++ cut ∷ []) longer
+derived-more M cuts again longer cut h (c, (is, from, cut_is)) =
     subst (AreDerivedAgain M (cuts ++ cut ∷ [])) (sym is)
     (record {
       derivations =
           map_push (λ (k : CutRow). k.from) again c
-          ∙ (λ i. h.derivations i ++ (from ∙ own) i ∷ [])
+          ∙ (λ i. h.derivations i ++ from i ∷ [])
           ∙ sym (map_push (λ (k : CutRow). k.from) cuts cut);
       pool = All-push (IsCutOf M) again c h.pool cut_is;
     })

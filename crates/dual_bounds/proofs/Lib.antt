@@ -1,9 +1,11 @@
 mod ChangedLists
 mod RangeLemmas
 mod CutLemmas
+mod StandingCuts
 mod ModelLemmas
 mod NumberLists
 mod WalkLemmas
+mod SparedLeaves
 mod PointLemmas
 mod BoundLemmas
 mod ExactLemmas

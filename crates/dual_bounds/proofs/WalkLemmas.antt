@@ -1,8 +1,9 @@
 -- A walk over the leaves of a tree lists their numbers, and what these say is said of the leaves.
-use Rattle.std.specs.Prelude.{◌≡◌, List, [], ◌∷◌, ◌++◌, Option}
+use Rattle.std.specs.Prelude.{◌≡◌, List, [], ◌∷◌, ◌++◌, All, Option}
 use Rattle.std.specs.List.{AllByRecursion}
-use Rattle.std.proofs.Common.{sym, subst, ◌∙◌, append_assoc}
+use Rattle.std.proofs.Common.{sym, subst, ◌∙◌, append_assoc, inl, inr}
 use Rattle.std.proofs.lemmas.List.{append-nil}
+use Rattle.std.proofs.lemmas.List.Elements.{All-head, All-tail}
 use Rattle.frac128.specs.Rational.{ℚ}
 use Rattle.lp_model.specs.Program.{Program}
 use Rattle.lp_model.specs.Regions.{Path}
@@ -17,39 +18,52 @@ use Rattle.branch_tree.proofs.VisitLemmas.{region_leaves-split}
 use Rattle.leaf_judging.specs.declared.closing.LeafNumber.{LeafNumber}
 use Rattle.leaf_judging.specs.Closing.{IsNumber, ClosesBy}
 use Rattle.leaf_judging.proofs.JudgeLemmas.{closes_same, zipped-push}
+use Rattle.sound_searches.specs.Sound.{PlainSearch}
 use Rattle.dual_bounds.specs.declared.walk.Listing.{Listing}
+use Rattle.dual_bounds.specs.declared.new_numbers.OtherNumbers.{OtherNumbers}
+use Rattle.dual_bounds.specs.private.Spared.{IsKeptNumber, IsListedNumber}
 use Rattle.dual_bounds.specs.private.Walk.{ListsLeaf}
 use Rattle.dual_bounds.specs.TreeBounds.{AreLeafNumbers}
 use Rattle.dual_bounds.proofs.NumberLists.{AllClose}
 
 -- ---- the walk
 
-module _ (M : Program) (cuts : List CutRow) where
+module _ (S : PlainSearch) (M : Program) (cuts : List CutRow) (given : OtherNumbers) where
   abbrev HasNumber : RegionLeaf → LeafNumber → Type 0
   HasNumber l n = IsNumber (formulation M cuts) l.region l.kept.mult l.kept.farkas n
 
+  -- what the search keeps of a leaf that is spared is its number
+  abbrev IsSafe : RegionLeaf → Type 0
+  IsSafe l = (n : LeafNumber) → IsKeptNumber S M cuts given l n → HasNumber l n
+
+  abbrev IsListing : Listing → Type 0
+  IsListing listing = (listing.model.now ≡ M) × (listing.pool.now ≡ cuts) × (listing.search.now ≡ S) × (listing.given.now ≡ given)
+
   abbrev AreListed : List RegionLeaf → Listing → Type 0
-  AreListed done listing = (listing.model.now ≡ M) × (listing.pool.now ≡ cuts) × AreLeafNumbers (formulation M cuts) done listing.numbers.items
+  AreListed done listing = IsListing listing × AreLeafNumbers (formulation M cuts) done listing.numbers.items
+
+  listed-number : (l : RegionLeaf) (n : LeafNumber) → IsSafe l → IsListedNumber S M cuts given l n → HasNumber l n
+  listed-number l n safe (inl computed) = computed
+  listed-number l n safe (inr kept) = safe n kept
 
   -- one leaf more
-  listed-one : (done : List RegionLeaf) (l : RegionLeaf) (old new : Listing) → AreListed done old → ListsLeaf old l new → AreListed (done ++ l ∷ []) new
-  listed-one done l old new listed step =
-      let is : HasNumber l step.number = subst (λ P. P) (λ i. IsNumber (formulation (listed.0 i) (listed.1 i)) l.region l.kept.mult l.kept.farkas step.number) step.number_is in (
-        step.same ∙ listed.0,
-        step.same_cuts ∙ listed.1,
-        subst (λ (numbers : List LeafNumber). AreLeafNumbers (formulation M cuts) (done ++ l ∷ []) numbers) (sym step.numbers_are) (zipped-push HasNumber done old.numbers.items l step.number listed.2 is),
+  listed-one : (done : List RegionLeaf) (l : RegionLeaf) (old new : Listing) → IsSafe l → AreListed done old → ListsLeaf old l new → AreListed (done ++ l ∷ []) new
+  listed-one done l old new safe listed step =
+      let of = listed.0 in
+      let is : HasNumber l step.number = listed-number l step.number safe (subst (λ P. P) (λ i. IsListedNumber (of.2 i) (of.0 i) (of.1 i) (of.3 i) l step.number) step.number_is) in (
+        (step.same ∙ of.0, step.same_cuts ∙ of.1, step.same_search ∙ of.2, step.same_given ∙ of.3),
+        subst (λ (numbers : List LeafNumber). AreLeafNumbers (formulation M cuts) (done ++ l ∷ []) numbers) (sym step.numbers_are) (zipped-push HasNumber done old.numbers.items l step.number listed.1 is),
       )
 
-  listed-all : (done more : List RegionLeaf) (old new : Listing) → AreListed done old → Visits ListsLeaf more old new → AreListed (done ++ more) new
-  listed-all done [] old new listed walk = subst (λ ls. AreListed ls new) (sym (append-nil done)) (subst (AreListed done) (sym walk) listed)
-  listed-all done (l ∷ more) old new listed walk =
+  listed-all : (done more : List RegionLeaf) (old new : Listing) → All IsSafe more → AreListed done old → Visits ListsLeaf more old new → AreListed (done ++ more) new
+  listed-all done [] old new safe listed walk = subst (λ ls. AreListed ls new) (sym (append-nil done)) (subst (AreListed done) (sym walk) listed)
+  listed-all done (l ∷ more) old new safe listed walk =
       subst (λ ls. AreListed ls new) (append_assoc done (l ∷ []) more)
-      (listed-all (done ++ l ∷ []) more walk.0 new (listed-one done l old walk.0 listed walk.1.0) walk.1.1)
+      (listed-all (done ++ l ∷ []) more walk.0 new (All-tail IsSafe l more safe) (listed-one done l old walk.0 (All-head IsSafe l more safe) listed walk.1.0) walk.1.1)
 
-  pub listed-tree : (t : Plain) (old new : Listing) → old.model.now ≡ M → old.pool.now ≡ cuts → old.numbers.items ≡ [] → Visits ListsLeaf (region_leaves [] t) old new
-      → AreLeafNumbers (formulation M cuts) (region_leaves [] t) new.numbers.items
-  listed-tree t old new is pool_is none walk =
-      (listed-all [] (region_leaves [] t) old new (is, pool_is, subst (λ (numbers : List LeafNumber). AreLeafNumbers (formulation M cuts) [] numbers) (sym none) tt) walk).2
+  pub listed-leaves : (leaves : List RegionLeaf) (old new : Listing) → All IsSafe leaves → IsListing old → old.numbers.items ≡ [] → Visits ListsLeaf leaves old new → AreLeafNumbers (formulation M cuts) leaves new.numbers.items
+  listed-leaves leaves old new safe is none walk =
+      (listed-all [] leaves old new safe (is, subst (λ (numbers : List LeafNumber). AreLeafNumbers (formulation M cuts) [] numbers) (sym none) tt) walk).1
 
 -- ---- leaves and lists
 

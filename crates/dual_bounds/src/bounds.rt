@@ -29,7 +29,7 @@ pub fn lower_bound_with(
     ensures exact { IfOk result (λ bound. ArePresentNumbers search.now.model numbers.now → IsExactLower search.now bound) }
 {
     let changed = model_with_numbers(alloc, search.model(), numbers)?;
-    match tree_bound(alloc, &changed, search.pool(), search.tree()) {
+    match tree_bound(alloc, &changed, search, numbers) {
         Ok(bound) => {
             drop(changed);
             Ok(bound)

@@ -19,7 +19,9 @@
 //! point has an upper one, and after a finished search both are its optimum at the numbers that there are (specs/Laws).
 //!
 //! A lower bound costs what it costs to derive the cuts and to judge the tree once, and takes memory for the cuts and for one
-//! number a leaf. Below stand the searches (`tree_edit`), the numbers of leaves (`leaf_judging`) and the cuts of a model
+//! number a leaf. At other sides a leaf has the number that the search keeps of it, where neither of its lists names a row whose sides
+//! differ, nor a cut that counts at one of the models alone; at one other cost, where the column makes no step in it, neither before nor
+//! after; the others are judged from nothing. A cut stands as it is where its row has the same sides. Below stand the searches (`tree_edit`), the numbers of leaves (`leaf_judging`) and the cuts of a model
 //! (`kept_cuts`, `cover_cuts`); above stands the environment.
 #![tactic(auto)]
 
@@ -30,6 +32,7 @@ mod laws;
 mod new_numbers;
 mod numbers;
 mod points;
+mod spared;
 mod walk;
 
 pub use answers::{LowerBound, UpperBound};

@@ -235,6 +235,13 @@ impl Search {
         }
     }
 
+    /// The numbers of the leaves, each kept under its leaf's id.
+    pub fn numbers(&self) -> &LeafNumbers
+        ensures { AreNumbersOf (formulation_of self.now) self.now.tree.root result.now }
+    {
+        &self.numbers
+    }
+
     /// The open leaf that goes first, with its number, if a leaf is open.
     pub fn next_candidate(&self) -> Option<Candidate>
         ensures { IsFirstCandidate (formulation_of self.now) (region_leaves [] self.now.tree.root) result }

@@ -2,20 +2,21 @@
 use Rattle.std.specs.Prelude.{◌≡◌, [], ◌∷◌, ◌++◌, List, Option}
 use Rattle.frac128.specs.Rational.{ℚ}
 use Rattle.lp_model.specs.Program.{Program, Point}
-use Rattle.lp_model.specs.Formulations.{formulation}
 use Rattle.branch_tree.specs.declared.node.RegionLeaf.{RegionLeaf}
 use Rattle.leaf_judging.specs.declared.closing.LeafNumber.{LeafNumber}
-use Rattle.leaf_judging.specs.Closing.{IsNumber}
 use Rattle.search_parts.specs.Points.{target}
 use Rattle.search_parts.specs.EditedPoints.{AreKeepable}
 use Rattle.dual_bounds.specs.declared.walk.Listing.{Listing}
+use Rattle.dual_bounds.specs.private.Spared.{IsListedNumber}
 
 -- the leaf's number goes behind the others
 pub record ListsLeaf (old : Listing) (l : RegionLeaf) (new : Listing) : Type 0 where
   pub same : new.model.now ≡ old.model.now
   pub same_cuts : new.pool.now ≡ old.pool.now
+  pub same_search : new.search.now ≡ old.search.now
+  pub same_given : new.given.now ≡ old.given.now
   pub number : LeafNumber
-  pub number_is : IsNumber (formulation old.model.now old.pool.now) l.region l.kept.mult l.kept.farkas number
+  pub number_is : IsListedNumber old.search.now old.model.now old.pool.now old.given.now l number
   pub numbers_are : new.numbers.items ≡ old.numbers.items ++ number ∷ []
 
 -- the least value of those of the points that are feasible
