@@ -30,6 +30,7 @@ use Rattle.spared_leaves.specs.Spared.{IsSpared}
 use Rattle.spared_leaves.proofs.LikePools.{like_pools}
 use Rattle.spared_leaves.proofs.LikeQuestions.{like_questions}
 use Rattle.spared_leaves.proofs.LikeTotals.{like_totals}
+use Rattle.spared_leaves.proofs.LikeShort.{like_short}
 use Rattle.spared_leaves.proofs.SparedLeaf.{is-spared}
 use Rattle.leaf_judging.specs.declared.closing.LeafNumber.{LeafNumber}
 use Rattle.leaf_judging.specs.declared.entry.LeafEntry.{LeafEntry}
@@ -87,6 +88,8 @@ module _ (M : Program) (others : List Row) (cuts : List CutRow) (path : Path) wh
     refuting = λ r. like_questions M N path cuts cuts (multiplier farkas) (cut_weight cuts farkas) (λ j. int (pos 0)) (λ j. int (pos 0)) (int (pos 0)) (question farkas other (λ j. int (pos 0))) r;
     lag_totals = λ more. like_totals M N path cuts cuts (multiplier mult) (cut_weight cuts mult) (least_cost M) (least_cost M) (least_constant M) (question mult own (least_cost M)) more;
     farkas_totals = λ more. like_totals M N path cuts cuts (multiplier farkas) (cut_weight cuts farkas) (λ j. int (pos 0)) (λ j. int (pos 0)) (int (pos 0)) (question farkas other (λ j. int (pos 0))) more;
+    lag_short = like_short M N path cuts cuts (multiplier mult) (cut_weight cuts mult) (least_cost M) (least_cost M) (least_constant M) (question mult own (least_cost M));
+    farkas_short = like_short M N path cuts cuts (multiplier farkas) (cut_weight cuts farkas) (λ j. int (pos 0)) (λ j. int (pos 0)) (int (pos 0)) (question farkas other (λ j. int (pos 0)));
   }
 
 -- ---- what is alike

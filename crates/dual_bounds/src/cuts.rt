@@ -10,7 +10,7 @@ ghost use Rattle.dual_bounds.specs.private.Spared.{LeavesDerivation, AddsAgain};
 use crate::new_numbers::OtherNumbers;
 use crate::spared::is_same_row;
 use cover_cuts::CutPool;
-use kept_cuts::{add_derivation, copy_derivation};
+use kept_cuts::{add_derivation, copy_derivation, with_derivation};
 use lp_model::{CutRow, Derivation, Model};
 use std::alloc::{AllocError, Global};
 use tree_edit::Search;
@@ -23,21 +23,6 @@ fn leaves_derivation(given: &OtherNumbers, own: &Model, model: &Model, from: &De
         OtherNumbers::Sides(_) => is_same_row(own, model, from.row.0 as usize),
         OtherNumbers::Costs(_) => true,
     }
-}
-
-/// The cut with another derivation in place of its own.
-fn cut_from(alloc: Global, cut: &CutRow, from: Derivation) -> Result<CutRow, AllocError>
-    ensures from { IfOk result (λ c. c.from ≡ from) }
-    ensures terms { IfOk result (λ c. c.terms ≡ cut.now.terms) }
-    ensures high { IfOk result (λ c. c.hi ≡ cut.now.hi) }
-    ensures live { IfOk result (λ c. c.live ≡ cut.now.live) }
-{
-    Ok(CutRow {
-        from,
-        terms: cut.terms.copy(alloc)?,
-        hi: cut.hi,
-        live: cut.live,
-    })
 }
 
 /// Adds a cut of one model as it derives at another: as it stands where the numbers that are given leave what it is derived from, and
@@ -57,7 +42,7 @@ fn add_again(
 {
     let from = copy_derivation(&cut.from)?;
     if leaves_derivation(given, own, model, &cut.from) {
-        let same = cut_from(alloc, cut, from)?;
+        let same = with_derivation(alloc, cut, from)?;
         again.add_cut_row(model, same)?;
         return Ok(());
     }

@@ -15,4 +15,4 @@ mod copies;
 mod pool;
 
 pub use copies::{copy_derivation, derivations};
-pub use pool::{add_derivation, gone_with, pool_after};
+pub use pool::{add_derivation, gone_with, pool_after, with_derivation};

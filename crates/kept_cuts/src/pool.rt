@@ -182,7 +182,7 @@ fn spares(model: &Model, edit: &Edit, from: &Derivation) -> bool
 }
 
 /// The cut with another derivation in place of its own.
-fn with_derivation(alloc: Global, cut: &CutRow, from: Derivation) -> Result<CutRow, AllocError>
+pub fn with_derivation(alloc: Global, cut: &CutRow, from: Derivation) -> Result<CutRow, AllocError>
     ensures from { IfOk result (λ c. c.from ≡ from) }
     ensures terms { IfOk result (λ c. c.terms ≡ cut.now.terms) }
     ensures high { IfOk result (λ c. c.hi ≡ cut.now.hi) }

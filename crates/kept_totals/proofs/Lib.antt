@@ -1,2 +1,3 @@
 pub mod TotalsLemmas
 pub mod WalkLemmas
+pub mod ShortLemmas

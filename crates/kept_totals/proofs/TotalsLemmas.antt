@@ -20,7 +20,7 @@ no_step_fits : (t a x : ℚ) → IsNoStep a x → StepFits t a x
 no_step_fits t a x (inl e) = inl e
 no_step_fits t a x (inr e) = inr (inl e)
 
-like_product : (a x b y : ℚ) → IsLikeTerm a x b y → a *ℚ x ≡ b *ℚ y
+pub like_product : (a x b y : ℚ) → IsLikeTerm a x b y → a *ℚ x ≡ b *ℚ y
 like_product a x b y (inl same) = λ i. same.0 i *ℚ same.1 i
 like_product a x b y (inr none) = zero_product a x none.0 ∙ sym (zero_product b y none.1)
 

@@ -1,3 +1,4 @@
 pub mod Forms
 pub mod Kept
 pub mod Walk
+pub mod Short

@@ -1,13 +1,14 @@
 // A term of a sum, in fractions or in whole numbers.
-ghost use Rattle.std.specs.Prelude.{◌≡◌, IfSome};
-ghost use Rattle.frac128.specs.Rational.{int};
+ghost use Rattle.std.specs.Prelude.{◌≡◌, IsTrue, IfSome};
+ghost use Rattle.frac128.specs.Rational.{int, ◌*ℚ◌};
 ghost use Rattle.frac128.specs.LowestTerms.{quotient_of};
 ghost use Rattle.whole_sums.specs.Wholes.{IsShort, IsDenominator};
 ghost use Rattle.kept_totals.specs.Forms.{IsWholePair, pair_product};
+ghost use Rattle.kept_totals.specs.Short.{IsShortFraction};
 
 use frac128::Frac;
 use std::marker::Model;
-use whole_sums::quotient;
+use whole_sums::{product, quotient, short_number};
 
 /// A short number over a denominator, and a short whole number.
 #[derive(Clone, Copy, Drop)]
@@ -28,6 +29,19 @@ pub(crate) enum TermForm {
 #[derive(Drop)]
 pub struct Term {
     form: TermForm,
+}
+
+/// The number that the product of a pair is over a denominator, where it is short and the pair's own denominator is the same.
+#[inline]
+fn short_product(pair: &WholePair, denominator: i64) -> Option<i64>
+    requires pair { IsWholePair pair.now }
+    requires denominator { IsDenominator denominator }
+    ensures { IfSome result (λ n. IsShort n × ((pair_product pair.now).factor *ℚ (pair_product pair.now).number ≡ quotient_of n denominator)) }
+{
+    if pair.denominator != denominator {
+        return None;
+    }
+    short_number(product(pair.factor, pair.number))
 }
 
 impl Model for Term {
@@ -101,6 +115,18 @@ impl Term {
         match &self.form {
             TermForm::Fractions { .. } => None,
             TermForm::Pair(pair) => Some(*pair),
+        }
+    }
+
+    /// Whether the product is seen at once to be a short number over a denominator.
+    #[inline]
+    pub(crate) fn is_short_over(&self, denominator: i64) -> bool
+        requires { IsDenominator denominator }
+        ensures { IsTrue result → IsShortFraction denominator (self.now.factor *ℚ self.now.number) }
+    {
+        match self.pair() {
+            None => false,
+            Some(pair) => short_product(&pair, denominator).is_some(),
         }
     }
 }

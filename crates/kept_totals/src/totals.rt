@@ -1,8 +1,9 @@
 // Totals that run and are kept.
-ghost use Rattle.std.specs.Prelude.{◌≡◌, ◌+◌, ◌<◌, ◌≤◌, [], length, pos, IfOk, OnOk, OnErr};
+ghost use Rattle.std.specs.Prelude.{◌≡◌, ◌+◌, ◌<◌, ◌≤◌, [], length, map, pos, false, IsTrue, IfOk, OnOk, OnErr};
 ghost use Rattle.frac128.specs.Rational.{int, ◌+ℚ◌, ◌*ℚ◌};
 ghost use Rattle.checked_sum.specs.Steps.{StepFits};
-ghost use Rattle.kept_totals.specs.Kept.{with_total, with_kept, IsBackAt, LikeTermsLaw};
+ghost use Rattle.kept_totals.specs.Kept.{with_total, with_kept, moved_by, IsBackAt, LikeTermsLaw};
+ghost use Rattle.kept_totals.specs.Short.{ShortSumLaw};
 
 use crate::steps::Steps;
 use crate::term::Term;
@@ -33,6 +34,19 @@ impl Model for Totals {
     ghost view = { λ t. record { total = t.total; kept = t.kept.items; room = t.room } };
 
     ghost invariant = { λ t. (vec_len t.kept ≤ t.room) × (t.room ≤ vec_capacity t.kept) };
+}
+
+/// Adds a term to each total of a list. False where one has no room: then it was added to those before that one.
+fn move_all(kept: &mut [Total], term: &Term) -> bool
+    ensures { IsTrue result → kept.new ≡ map (λ v. v +ℚ term.now.factor *ℚ term.now.number) kept.old }
+{
+    for place in 0..kept.len() {
+        match kept[place].plus(term) {
+            Ok(next) => kept[place] = next,
+            Err(_) => return false,
+        }
+    }
+    true
 }
 
 impl Totals {
@@ -105,6 +119,30 @@ impl Totals {
         self.kept.truncate(place + 1);
     }
 
+    /// Adds a term to the total and to each that is kept, and ticks for each: where a term of the sum becomes another one, and all
+    /// that is kept stands behind it, the term is how much its product grew. False where one has no room: then no total is known, and
+    /// nothing ticks.
+    pub fn move_by<L: Ledger>(&mut self, term: &Term, steps: &mut Steps<L>) -> bool
+        ensures moved { IsTrue result → self.new ≡ moved_by self.old (term.now.factor *ℚ term.now.number) }
+        ensures count { length self.new.kept ≡ length self.old.kept }
+        ensures room { self.new.room ≡ self.old.room }
+        ensures ticks { IsTrue result → steps.new ≡ steps.old + (length self.old.kept + 1) }
+        ensures none { result ≡ false → steps.new ≡ steps.old }
+    {
+        let moves = self.kept.len() + 1;
+        if !move_all(self.kept.as_mut_slice(), term) {
+            return false;
+        }
+        match self.total.plus(term) {
+            Ok(grown) => {
+                self.total = grown;
+                steps.rise(moves);
+                true
+            }
+            Err(_) => false,
+        }
+    }
+
     /// The same totals once more, with the same room.
     pub fn copy(&self, alloc: Global) -> Result<Totals, AllocError>
         ensures { IfOk result (λ t. t ≡ self.now) }
@@ -135,4 +173,9 @@ impl Totals {
 /// Sums whose terms are alike as far as a place have the same total there.
 pub fn like_terms_law()
     ensures { LikeTermsLaw }
+{}
+
+/// A sum of short numbers over one denominator has room step by step, where the start and they are at most 2^64 times as large together.
+pub fn short_sum_law()
+    ensures { ShortSumLaw }
 {}

@@ -1,6 +1,8 @@
 // A sum that is gone on with from a kept total.
-ghost use Rattle.std.specs.Prelude.{◌≡◌, ◌+◌, ◌-◌, ◌*◌, ◌/◌, ◌<◌, ◌≤◌, ℕ, length, IfErr, OnOk, MatchOption};
+ghost use Rattle.std.specs.Prelude.{◌≡◌, ◌+◌, ◌-◌, ◌*◌, ◌/◌, ◌<◌, ◌≤◌, ℕ, length, IsTrue, IfErr, OnOk, MatchOption};
 ghost use Rattle.frac128.specs.Rational.{ℚ};
+ghost use Rattle.whole_sums.specs.Wholes.{IsDenominator};
+ghost use Rattle.kept_totals.specs.Short.{AreShortProducts};
 ghost use Rattle.kept_totals.specs.Walk.{IsTotalAt, KeepsMore, IsSumStop, stop_place};
 
 use crate::steps::Steps;
@@ -30,6 +32,25 @@ pub trait PartialTerms {
         requires index { index < count self.now }
         requires lawful { is_lawful self.now }
         ensures { MatchOption result (¬ is_there self.now index) (λ t. is_there self.now index × (t ≡ record { factor = factor self.now index; number = number self.now index })) };
+}
+
+/// Whether each term is there, and its product is seen at once to be a short number over a denominator.
+pub fn are_short<T: PartialTerms>(terms: &T, denominator: i64) -> bool
+    requires lawful { T.is_lawful terms.now }
+    requires denominator { IsDenominator denominator }
+    ensures there { IsTrue result → (k : ℕ) → k < T.count terms.now → T.is_there terms.now k }
+    ensures short { IsTrue result → AreShortProducts denominator (T.factor terms.now) (T.number terms.now) (T.count terms.now) }
+{
+    let count = terms.count();
+    for index in 0..count {
+        let Some(term) = terms.term(index) else {
+            return false;
+        };
+        if !term.is_short_over(denominator) {
+            return false;
+        }
+    }
+    true
 }
 
 /// Why a sum isn't gone on with at a place.

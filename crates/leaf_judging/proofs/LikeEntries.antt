@@ -1,6 +1,6 @@
 -- Totals that are kept, under another question that is alike; and the questions of a leaf that are: with the cuts up to the last one
 -- that its list names.
-use Rattle.std.specs.Prelude.{◌≡◌, ◌⊎◌, ℕ, zero, suc, ◌+◌, ◌*◌, ◌/◌, ◌<◌, ◌≤◌, Bool, true, false, if◌then◌else◌, not, ◌&&◌, IsTrue, List, [], ◌∷◌, length, take, Option, Some, None, pos, Result}
+use Rattle.std.specs.Prelude.{◌≡◌, ◌⊎◌, ℕ, zero, suc, ◌+◌, ◌*◌, ◌/◌, ◌<◌, ◌≤◌, ℤ, Bool, true, false, if◌then◌else◌, not, ◌&&◌, IsTrue, List, [], ◌∷◌, length, take, Option, Some, None, pos, Result}
 use Rattle.std.proofs.Common.{refl, sym, ap, subst, ◌∙◌, arith, inl, inr, true≢false, eq-eqb, lt-ltb}
 use Rattle.std.proofs.lemmas.Bool.{cases_lt}
 use Rattle.std.proofs.lemmas.List.Elements.{All-head, All-tail}
@@ -24,12 +24,14 @@ use Rattle.leaf_dual.proofs.NamedFront.{lag-front, farkas-front}
 use Rattle.leaf_totals.specs.declared.end.End.{End}
 use Rattle.leaf_totals.specs.declared.end.End.TheVariants.{Missing, Wide, WideEntry}
 use Rattle.leaf_totals.specs.declared.keeping.LeafTotals.{LeafTotals}
-use Rattle.leaf_totals.specs.Keeping.{Question, list_question, AnswersQuestion, IsKeptTotal, AreKeptTotals, IsTermsEnd, IsEnding, AreTrueTotals, AreComplete, kept_most, kept_to, left_behind}
+use Rattle.leaf_totals.specs.Keeping.{Question, list_question, AnswersQuestion, IsKeptTotal, AreKeptTotals, IsTermsEnd, IsEnding, IsSumOfShortTerms, AreTrueTotals, AreComplete, kept_most, kept_to, left_behind}
 use Rattle.leaf_totals.specs.Likeness.{ends_before, AreLikeTo, CanGoOn}
 use Rattle.spared_leaves.specs.declared.touched.Touched.TheVariants.{Nothing}
 use Rattle.spared_leaves.specs.Touched.{leaves_cut, leaves_variable, leaves_list}
 use Rattle.spared_leaves.specs.Alike.{IsSameCut, AreAlikeBut, AreAlikeCuts}
-use Rattle.spared_leaves.proofs.LikeAnswers.{like_lag_totals, like_farkas_totals}
+use Rattle.spared_leaves.specs.Spared.{KeepsShort}
+use Rattle.spared_leaves.proofs.ColumnLemmas.{some-too}
+use Rattle.spared_leaves.proofs.LikeAnswers.{like_lag_totals, like_farkas_totals, lag-short, farkas-short}
 
 -- what a walk ends in stands before the last column's end
 ends-within : (q : Question) (e : End) → IsTermsEnd q e → ends_before (length q.form.model.cols) e ≡ true
@@ -65,19 +67,20 @@ module _ (q r : Question) (blocks : length q.form.model.cols / 64 ≡ length r.f
   pub complete-like : (t : LeafTotals) → AreComplete q t → AreComplete r t
   complete-like t complete = complete ∙ to-like t.ending
 
-  pub ready-like : (t : LeafTotals) → CanGoOn q t → CanGoOn r t
-  ready-like t go = record {
+  pub ready-like : (t : LeafTotals) → ((over : ℤ) → IsSumOfShortTerms q t over → IsSumOfShortTerms r t over) → CanGoOn q t → CanGoOn r t
+  ready-like t short go = record {
     are = record {
       kept = all-like t.totals.kept go.are.few go.are.kept;
       few = subst (λ n. length t.totals.kept ≤ n) most-like go.are.few;
       ending = ending-like t.ending go.are.ending;
+      over = some-too t.over (IsSumOfShortTerms q t) (IsSumOfShortTerms r t) short go.are.over;
     };
     ended = λ some. complete-like t (go.ended some);
   }
 
 -- ---- of as many columns
 
-pub like-ready : (q r : Question) → length q.form.model.cols ≡ length r.form.model.cols → AreLikeTo (length q.form.model.cols) q r → (t : LeafTotals) → CanGoOn q t → CanGoOn r t
+pub like-ready : (q r : Question) → length q.form.model.cols ≡ length r.form.model.cols → AreLikeTo (length q.form.model.cols) q r → (t : LeafTotals) → ((over : ℤ) → IsSumOfShortTerms q t over → IsSumOfShortTerms r t over) → CanGoOn q t → CanGoOn r t
 like-ready q r same like = ready-like q r (ap (λ n. n / 64) same) like
 
 pub like-complete : (q r : Question) → length q.form.model.cols ≡ length r.form.model.cols → AreLikeTo (length q.form.model.cols) q r → (t : LeafTotals) → AreComplete q t → AreComplete r t
@@ -184,13 +187,21 @@ module _ (M : Program) (path : Path) (mult : Multipliers) (cuts front : List Cut
   from-front true = like_lag_totals Nothing M M front cuts (alike-self M) (front-alike cuts front is few) path mult (list-left cuts front is few mult behind).1 (λ j touched. absurd (true≢false touched)) (omega arith)
   from-front false = like_farkas_totals Nothing M M front cuts (alike-self M) (front-alike cuts front is few) path mult (list-left cuts front is few mult behind).1 (λ j touched. absurd (true≢false touched)) (omega arith)
 
+  short-to-front : (costed : Bool) → KeepsShort (formulation M cuts) (formulation M front) (all_cuts costed) (first_cuts costed)
+  short-to-front true = lag-short Nothing M M cuts front (alike-self M) (alike-front cuts front is few) path mult (list-left cuts front is few mult behind).0 (λ j touched. absurd (true≢false touched))
+  short-to-front false = farkas-short Nothing M M cuts front (alike-self M) (alike-front cuts front is few) path mult (list-left cuts front is few mult behind).0 (λ j touched. absurd (true≢false touched))
+
+  short-from-front : (costed : Bool) → KeepsShort (formulation M front) (formulation M cuts) (first_cuts costed) (all_cuts costed)
+  short-from-front true = lag-short Nothing M M front cuts (alike-self M) (front-alike cuts front is few) path mult (list-left cuts front is few mult behind).1 (λ j touched. absurd (true≢false touched))
+  short-from-front false = farkas-short Nothing M M front cuts (alike-self M) (front-alike cuts front is few) path mult (list-left cuts front is few mult behind).1 (λ j touched. absurd (true≢false touched))
+
   -- ---- what is kept with all cuts is kept with the first ones, and the other way round
 
   pub front-ready : (costed : Bool) (t : LeafTotals) → CanGoOn (all_cuts costed) t → CanGoOn (first_cuts costed) t
-  front-ready costed t = like-ready (all_cuts costed) (first_cuts costed) refl (to-front costed) t
+  front-ready costed t = like-ready (all_cuts costed) (first_cuts costed) refl (to-front costed) t (short-to-front costed (omega arith) refl t)
 
   pub all-ready : (costed : Bool) (t : LeafTotals) → AreTrueTotals (first_cuts costed) t → AreComplete (first_cuts costed) t → CanGoOn (all_cuts costed) t
-  all-ready costed t are complete = like-ready (first_cuts costed) (all_cuts costed) refl (from-front costed) t (record { are = are; ended = λ some. complete })
+  all-ready costed t are complete = like-ready (first_cuts costed) (all_cuts costed) refl (from-front costed) t (short-from-front costed (omega arith) refl t) (record { are = are; ended = λ some. complete })
 
   pub all-complete : (costed : Bool) (t : LeafTotals) → AreComplete (first_cuts costed) t → AreComplete (all_cuts costed) t
   all-complete costed t = like-complete (first_cuts costed) (all_cuts costed) refl (from-front costed) t

@@ -1,8 +1,9 @@
 -- What is kept of a leaf depends on its region by the bounds alone.
-use Rattle.std.specs.Prelude.{◌≡◌, ℕ, Bool, true, false, [], ◌∷◌, length}
+use Rattle.std.specs.Prelude.{◌≡◌, ℕ, ℤ, Bool, true, false, [], ◌∷◌, length}
 use Rattle.std.proofs.Common.{refl, sym, subst, ◌∙◌, arith}
 use Rattle.frac128.specs.Rational.{ℚ}
 use Rattle.checked_sum.specs.Steps.{StepFitsAt, AllFit, partial}
+use Rattle.kept_totals.specs.Short.{AreShortProducts}
 use Rattle.lp_model.specs.Regions.{Path}
 use Rattle.lp_model.specs.Formulations.{Formulation}
 use Rattle.lp_model.specs.declared.types.Var.TheVariants.{Col, Row, Cut}
@@ -15,7 +16,7 @@ use Rattle.leaf_dual.proofs.SameRegion as region
 use Rattle.leaf_totals.specs.declared.end.End.{End}
 use Rattle.leaf_totals.specs.declared.end.End.TheVariants.{Missing, Wide, WideEntry}
 use Rattle.leaf_totals.specs.declared.keeping.LeafTotals.{LeafTotals}
-use Rattle.leaf_totals.specs.Keeping.{list_question, IsBeforeColumn, IsTermsEnd}
+use Rattle.leaf_totals.specs.Keeping.{list_question, IsBeforeColumn, IsTermsEnd, IsSumOfShortTerms}
 use Rattle.leaf_totals.specs.Likeness.{AreLikeTo, question_with}
 use Rattle.leaf_judging.specs.declared.entry.LeafEntry.{LeafEntry}
 use Rattle.leaf_judging.specs.Totals.{AreListTotals, AreFarkasTotals, IsEntryOf}
@@ -67,13 +68,29 @@ module _ (F : Formulation) (R P : Path) (s : SameBounds R P) (y z c : ℕ → �
     ends = λ e before h. ends-same e h;
   }
 
+  short-region : (t : LeafTotals) (over : ℤ) → IsSumOfShortTerms (question_with F R y z c₀ c) t over → IsSumOfShortTerms (question_with F P y z c₀ c) t over
+  short-region t over h = record {
+    denominator = h.denominator;
+    terms = record {
+      start = h.terms.start;
+      rows = h.terms.rows;
+      cuts = h.terms.cuts;
+      columns = subst (λ b. AreShortProducts over (column_reduced_cost F y z c) b (length F.model.cols)) numbers-same h.terms.columns;
+    };
+    added = record { rows = h.added.rows; cuts = h.added.cuts; columns = before-same (length F.model.cols) t.totals.total h.added.columns; count = h.added.count };
+    ended = h.ended;
+  }
+
 module _ (F : Formulation) (R P : Path) (s : SameBounds R P) where
   like-list : (mult : Multipliers) (costed : Bool) → AreLikeTo (length F.model.cols) (list_question F R mult costed) (list_question F P mult costed)
   like-list mult costed = like-region F R P s (multiplier mult) (cut_weight F.cuts mult) (cost_of costed F.model) (constant_of costed F.model)
 
+  short-list : (mult : Multipliers) (costed : Bool) (t : LeafTotals) (over : ℤ) → IsSumOfShortTerms (list_question F R mult costed) t over → IsSumOfShortTerms (list_question F P mult costed) t over
+  short-list mult costed = short-region F R P s (multiplier mult) (cut_weight F.cuts mult) (cost_of costed F.model) (constant_of costed F.model)
+
   totals-same : (mult : Multipliers) (costed : Bool) (t : LeafTotals) → AreListTotals F R mult costed t → AreListTotals F P mult costed t
   totals-same mult costed t h = record {
-    ready = like-ready (list_question F R mult costed) (list_question F P mult costed) refl (like-list mult costed) t h.ready;
+    ready = like-ready (list_question F R mult costed) (list_question F P mult costed) refl (like-list mult costed) t (short-list mult costed t) h.ready;
     room = h.room;
   }
 

@@ -13,7 +13,7 @@ use Rattle.leaf_totals.specs.Likeness.{CanGoOn}
 use Rattle.branch_tree.specs.declared.node.LeafData.{LeafData}
 use Rattle.branch_tree.specs.declared.node.RegionLeaf.{RegionLeaf}
 use Rattle.spared_leaves.specs.declared.touched.Touched.{Touched}
-use Rattle.spared_leaves.specs.declared.touched.Touched.TheVariants.{Nothing, OneRow, OneCost, OneColumn}
+use Rattle.spared_leaves.specs.declared.touched.Touched.TheVariants.{Nothing, OneRow, RowSides, OneCost, OneColumn}
 use Rattle.spared_leaves.specs.Touched.{leaves_list}
 use Rattle.leaf_judging.specs.declared.closing.LeafNumber.TheVariants.{Empty}
 use Rattle.leaf_judging.specs.declared.entry.LeafEntry.{LeafEntry}
@@ -49,6 +49,7 @@ terms_of F = length F.model.rows + (length F.cuts + length F.model.cols)
 abbrev pub touched_steps : Formulation → Touched → ℕ
 touched_steps F Nothing = 0
 touched_steps F (OneRow row) = 0
+touched_steps F (RowSides row) = 0
 touched_steps F (OneCost col) = length F.model.cols - col.0 + 63
 touched_steps F (OneColumn col) = 2 * terms_of F
 

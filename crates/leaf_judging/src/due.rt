@@ -26,6 +26,7 @@ fn cost_place(touched: &Option<Touched>) -> Option<usize>
         Some(touched) => match touched {
             Touched::Nothing => None,
             Touched::OneRow(_) => None,
+            Touched::RowSides(_) => None,
             Touched::OneCost(col) => Some(col.0 as usize),
             Touched::OneColumn(_) => None,
         },

@@ -1,25 +1,25 @@
 // A leaf's number with the totals that are kept of its two lists.
-ghost use Rattle.std.specs.Prelude.{◌≡◌, ◌≢◌, ◌↔◌, ◌∷◌, ◌+◌, ◌-◌, ◌*◌, ◌/◌, ◌<◌, ◌≤◌, true, length, IsTrue, IfOk, MatchBool, List};
+ghost use Rattle.std.specs.Prelude.{◌≡◌, ◌≢◌, ◌↔◌, ◌∷◌, ◌+◌, ◌-◌, ◌*◌, ◌/◌, ◌<◌, ◌≤◌, true, false, length, IsTrue, IfOk, MatchBool, List};
 ghost use Rattle.frac128.specs.Rational.{ℚ};
 ghost use Rattle.lp_model.specs.Regions.{Path, AreNarrow};
 ghost use Rattle.lp_model.specs.Formulations.{formulation};
 ghost use Rattle.lp_model.specs.declared.types.CutRow.{CutRow};
 ghost use Rattle.lp_model.specs.declared.types.Var.{Var};
-ghost use Rattle.leaf_dual.specs.Dual.{Multipliers};
+ghost use Rattle.leaf_dual.specs.Dual.{Multipliers, multiplier, row_side};
 ghost use Rattle.leaf_totals.specs.declared.keeping.LeafTotals.{LeafTotals};
 ghost use Rattle.leaf_totals.specs.Keeping.{list_question, AreComplete, kept_most, steps_left};
 ghost use Rattle.leaf_totals.specs.Likeness.{IsBackBefore, IsBack};
 ghost use Rattle.leaf_judging.specs.declared.closing.LeafNumber.TheVariants.{Empty};
 ghost use Rattle.leaf_judging.specs.Closing.{IsRefuted};
 ghost use Rattle.leaf_judging.specs.Totals.{AreListTotals, AreFarkasTotals, IsEntryOf, terms_of};
-ghost use Rattle.leaf_judging.specs.private.Entries.{CanRefute, HasRefuted, IsLagNumber, GoesOnFrom};
+ghost use Rattle.leaf_judging.specs.private.Entries.{CanRefute, HasRefuted, IsLagNumber, GoesOnFrom, MovesSide};
 
 use crate::closing::LeafNumber;
 use crate::optional::{OptionalTotals, list_number};
 use cover_cuts::CutPool;
-use leaf_dual::{LagValue, Leaf, Steps};
+use leaf_dual::{LagValue, Leaf, Steps, multiplier};
 use leaf_totals::LeafTotals;
-use lp_model::{BoundChange, Model, Mult, WideStep};
+use lp_model::{Bound, BoundChange, Model, Mult, WideStep};
 use std::alloc::{AllocError, Global};
 use std::marker::Brand;
 use std::sync::ledger::{Blank, Ledger};
@@ -79,6 +79,7 @@ fn lag_number<L: Ledger>(
     pool: &CutPool,
     region: &[BoundChange],
     mult: &Mult,
+    seeks: bool,
     steps: &mut Steps<L>,
 ) -> LeafNumber
     requires narrow { AreNarrow region.now }
@@ -96,7 +97,7 @@ fn lag_number<L: Ledger>(
         mult: mult.as_slice(),
         costed: true,
     };
-    match list_number(totals, &leaf, steps) {
+    match list_number(totals, &leaf, seeks, steps) {
         Ok(value) => LeafNumber::Lag(value),
         Err(step) => LeafNumber::Wide(step),
     }
@@ -173,6 +174,7 @@ impl LeafEntry {
         region: &[BoundChange],
         mult: &Mult,
         farkas: &Mult,
+        seeks: bool,
         steps: &mut Steps<L>,
     )
         requires narrow { AreNarrow region.now }
@@ -190,7 +192,7 @@ impl LeafEntry {
             self.number = LeafNumber::Empty;
             return;
         }
-        self.number = lag_number(&mut self.lag, model, pool, region, mult, steps);
+        self.number = lag_number(&mut self.lag, model, pool, region, mult, seeks, steps);
     }
 
     /// The number after another cost of a column, gone on with from the last total before it. An empty region stays one.
@@ -215,7 +217,57 @@ impl LeafEntry {
             return;
         }
         self.lag.back_before(col);
-        self.number = lag_number(&mut self.lag, model, pool, region, mult, steps);
+        self.number = lag_number(&mut self.lag, model, pool, region, mult, false, steps);
+    }
+}
+
+/// The side of a row that a list takes.
+fn list_side(model: &Model, mult: &Mult, row: usize) -> Bound
+    requires { row < length model.now.rows }
+    ensures { result ≡ row_side model.now (multiplier mult.now) row }
+{
+    let leaf = Leaf {
+        model,
+        cuts: &[],
+        region: &[],
+        mult: mult.as_slice(),
+        costed: true,
+    };
+    leaf.row_side(row)
+}
+
+impl LeafEntry {
+    /// The number after another side of a row, where all that is kept of the multipliers' totals grows by as much as the row's term grew. An
+    /// empty region stays one. False where that isn't seen, after no step: then nothing is known of the entry.
+    pub(crate) fn move_side<L: Ledger>(
+        &mut self,
+        row: usize,
+        before: &Model,
+        model: &Model,
+        mult: &Mult,
+        steps: &mut Steps<L>,
+    ) -> bool
+        requires within { row < length before.now.rows }
+        requires there { row < length model.now.rows }
+        ensures moved { IsTrue result → MovesSide row before.now model.now mult.now self.old self.new }
+        ensures rises { steps.old ≤ steps.new }
+        ensures none { result ≡ false → steps.new ≡ steps.old }
+        ensures steps { steps.new ≤ steps.old + (length self.old.lag.totals.kept + 1) }
+    {
+        if is_empty(&self.number) {
+            self.lag.back_to(0);
+            return true;
+        }
+        let weight = multiplier(mult.as_slice(), row);
+        let old = list_side(before, mult, row);
+        let new = list_side(model, mult, row);
+        match self.lag.move_side(&weight, &old, &new, steps) {
+            None => false,
+            Some(number) => {
+                self.number = LeafNumber::Lag(LagValue::Num(number));
+                true
+            }
+        }
     }
 }
 
@@ -227,6 +279,7 @@ pub(crate) fn entry_by<L: Ledger>(
     region: &[BoundChange],
     mult: &Mult,
     farkas: &Mult,
+    seeks: bool,
     steps: &mut Steps<L>,
 ) -> Result<LeafEntry, AllocError>
     requires narrow { AreNarrow region.now }
@@ -236,7 +289,7 @@ pub(crate) fn entry_by<L: Ledger>(
 {
     match LeafEntry::new(alloc, model, farkas) {
         Ok(mut entry) => {
-            entry.renumber(model, pool, region, mult, farkas, steps);
+            entry.renumber(model, pool, region, mult, farkas, seeks, steps);
             Ok(entry)
         }
         Err(error) => Err(error),
@@ -260,7 +313,7 @@ fn entry_with<L: Ledger>(
     ensures { IfOk result (λ e. IsEntryOf (formulation model.now pool.now) region.now mult.now farkas.now e) }
 {
     let mut steps: Steps<L> = Steps::new(blank);
-    entry_by(alloc, model, pool, region, mult, farkas, &mut steps)
+    entry_by(alloc, model, pool, region, mult, farkas, false, &mut steps)
 }
 
 /// What a leaf of a region with these multipliers and Farkas multipliers of rows and cuts keeps: its number (that of `number_of`), and

@@ -1,14 +1,16 @@
 // Entries of leaves from before an edit of the model, and what of them stands after it.
-ghost use Rattle.std.specs.Prelude.{◌↔◌, ◌<◌, ◌≡◌, IsTrue, length};
+ghost use Rattle.std.specs.Prelude.{◌↔◌, ◌<◌, ◌≡◌, ◌&&◌, IsTrue, true, false, length};
 ghost use Rattle.lp_model.specs.Regions.{AreNarrow};
 ghost use Rattle.lp_model.specs.Formulations.{formulation};
-ghost use Rattle.leaf_judging.specs.private.Ways.{KeepsBlocks, IsWayBy, IsWayAfter};
+ghost use Rattle.spared_leaves.specs.declared.touched.Touched.TheVariants.{Nothing};
+ghost use Rattle.spared_leaves.specs.Touched.{leaves_list};
+ghost use Rattle.leaf_judging.specs.private.Ways.{KeepsBlocks, IsNamedWay, IsWayBy, IsWayAfter};
 
 use crate::numbers::LeafNumbers;
 use branch_tree::LeafData;
 use cover_cuts::CutPool;
 use lp_model::{BoundChange, Model};
-use spared_leaves::{Change, Posed, Touched};
+use spared_leaves::{Change, Posed, Touched, leaves_list};
 
 /// The numbers that were kept of a tree's leaves before an edit of the model, the model and the cuts of then, and what the edit
 /// touched, where that was so little that some leaves may keep what is kept of them.
@@ -27,6 +29,8 @@ pub(crate) enum Way {
     Spared,
     /// All but its number, and the totals of its multipliers from this column on.
     FromCost(usize),
+    /// All but its number and the totals of its multipliers, which grow with the side of this row.
+    FromSide(usize),
     /// Nothing that is known.
     Anew,
 }
@@ -46,6 +50,54 @@ impl Former<'_> {
         ensures { IsTrue result ↔ (col < length self.now.model.now.cols) × (length self.now.model.now.cols ≡ length model.now.cols) }
     {
         col < self.model.cols().len() && self.model.cols().len() == model.cols().len()
+    }
+
+    /// Whether there is the row, and a model has as many.
+    fn has_row(&self, model: &Model, row: usize) -> bool
+        ensures { IsTrue result ↔ (row < length self.now.model.now.rows) × (length self.now.model.now.rows ≡ length model.now.rows) }
+    {
+        row < self.model.rows().len() && self.model.rows().len() == model.rows().len()
+    }
+
+    /// Whether there are as many cuts, the list of multipliers names none that turned, and that of Farkas multipliers nothing that is touched.
+    /// Nothing rests on a `false` but speed.
+    fn leaves_all_but_side(&self, touched: &Touched, pool: &CutPool, kept: &LeafData) -> bool
+        ensures cuts { IsTrue result → length self.now.pool.now ≡ length pool.now }
+        ensures mult { IsTrue result → leaves_list Nothing self.now.pool.now pool.now kept.now.mult ≡ true }
+        ensures farkas { IsTrue result → leaves_list touched.now self.now.pool.now pool.now kept.now.farkas ≡ true }
+    {
+        let before = self.pool.rows();
+        let after = pool.rows();
+        if before.len() != after.len() {
+            return false;
+        }
+        if !leaves_list(&Touched::Nothing, before, after, kept.mult.as_slice()) {
+            return false;
+        }
+        leaves_list(touched, before, after, kept.farkas.as_slice())
+    }
+
+    /// What stands of a leaf's entry where a list names what was touched.
+    fn named_way(&self, touched: &Touched, model: &Model, pool: &CutPool, kept: &LeafData) -> Way
+        requires { (leaves_list touched.now self.now.pool.now pool.now kept.now.mult && leaves_list touched.now self.now.pool.now pool.now kept.now.farkas) ≡ false }
+        ensures { IsNamedWay touched.now self.now (formulation model.now pool.now) kept.now result }
+    {
+        match touched {
+            Touched::RowSides(row) => {
+                let place = row.0 as usize;
+                if !self.has_row(model, place) {
+                    return Way::Anew;
+                }
+                if !self.has_column(model, 0) {
+                    return Way::Anew;
+                }
+                if !self.leaves_all_but_side(touched, pool, kept) {
+                    return Way::Anew;
+                }
+                Way::FromSide(place)
+            }
+            _ => Way::Anew,
+        }
     }
 
     /// What stands of a leaf's entry after an edit that touched so much.
@@ -79,11 +131,12 @@ impl Former<'_> {
             return Way::Anew;
         }
         if !change.leaves_lists(touched, mult, farkas) {
-            return Way::Anew;
+            return self.named_way(touched, model, pool, kept);
         }
         match touched {
             Touched::Nothing => Way::Anew,
             Touched::OneRow(_) => Way::Anew,
+            Touched::RowSides(_) => Way::Anew,
             Touched::OneCost(col) => {
                 let place = col.0 as usize;
                 if self.has_column(model, place) {

@@ -18,8 +18,8 @@
 //! any that is handed in, so that a caller can judge the tree after a change before it makes the change. A number depends on
 //! the model, its cuts, the region and the multipliers alone, so it is kept under the leaf's id, with the totals of both lists
 //! (`LeafEntry`, specs/Totals), and for another target `judge_again` compares the numbers that are kept, and computes none. After an edit
-//! of the model the entries from before may be handed in (`Former`): a leaf that the edit spares keeps its own, and after another cost
-//! one is gone on with from the last total before that column. A counter is ticked at each term that is added to a total, and how far it
+//! of the model the entries from before may be handed in (`Former`): a leaf that the edit spares keeps its own, after another cost
+//! one is gone on with from the last total before that column, and after other sides of a row its totals are moved, where their terms are short. A counter is ticked at each term that is added to a total, and how far it
 //! rises is bounded (`former_steps`). A region counts by its bounds alone (proofs/SameNumber), so a leaf is
 //! judged by the tightest changes of its path, however long that is. What is taken grows as the tree does.
 //!

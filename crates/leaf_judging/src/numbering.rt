@@ -1,5 +1,5 @@
-// Entries of a tree's leaves, put down one by one. After an edit, what a leaf had before is copied, or gone on with.
-ghost use Rattle.std.specs.Prelude.{◌≡◌, ◌≤◌, ◌+◌, [], None, IfOk, OnOk, IfSome};
+// Entries of a tree's leaves, put down one by one. After an edit, what a leaf had before is copied, moved, or gone on with.
+ghost use Rattle.std.specs.Prelude.{◌≡◌, ◌≤◌, ◌+◌, [], Some, None, IfOk, OnOk, IfSome};
 ghost use Rattle.std.specs.Option.{option_copied};
 ghost use Rattle.lp_model.specs.Regions.{Path, AreNarrow};
 ghost use Rattle.lp_model.specs.Formulations.{formulation};
@@ -9,6 +9,8 @@ ghost use Rattle.branch_tree.specs.Leaves.{region_leaves};
 ghost use Rattle.leaf_judging.specs.Numbers.{AreNumbersOf};
 ghost use Rattle.leaf_judging.specs.Totals.{IsLeafEntry};
 ghost use Rattle.leaf_judging.specs.Former.{HoldsFormer, AreFormer, former_leaf_steps, former_steps};
+ghost use Rattle.leaf_judging.specs.declared.former.Way.TheVariants.{FromSide};
+ghost use Rattle.leaf_judging.specs.private.Ways.{IsWayAfter};
 ghost use Rattle.leaf_judging.specs.private.Walked.{former_kept, IsWayAt, IsDue, due_steps, dues, AreBut};
 
 use crate::due::finish;
@@ -69,7 +71,60 @@ fn former_entry<'a>(former: &'a Option<Former<'a>>, id: u64) -> Option<&'a LeafE
     }
 }
 
-/// The entry of a leaf, copied from before or computed from nothing; `None` where it is due.
+/// The entry of a leaf after another side of a row: what was kept of it is moved, where that is seen to have room, and else it is computed
+/// from nothing.
+fn moved_entry<L: Ledger>(
+    alloc: Global,
+    former: &Former<'_>,
+    model: &Model,
+    pool: &CutPool,
+    row: usize,
+    id: u64,
+    region: &[BoundChange],
+    kept: &LeafData,
+    steps: &mut Steps<L>,
+) -> Result<LeafEntry, AllocError>
+    requires narrow { AreNarrow region.now }
+    requires way { IsWayAfter former.now (formulation model.now pool.now) region.now kept.now (FromSide row) }
+    ensures entry { IfOk result (λ e. (path : Path) → SameBounds region.now path → HoldsFormer (Some former.now) (formulation model.now pool.now) path (record { id = id; kept = kept.now }) → IsLeafEntry (formulation model.now pool.now) path kept.now e × (steps.new ≤ steps.old + former_leaf_steps (Some former.now) (formulation model.now pool.now) kept.now)) }
+    ensures rises { steps.old ≤ steps.new }
+{
+    let _lawful = model.rows();
+    let _few = pool.rows();
+    match former.numbers.entry(id) {
+        None => entry_by(
+            alloc,
+            model,
+            pool,
+            region,
+            &kept.mult,
+            &kept.farkas,
+            true,
+            steps,
+        ),
+        Some(before) => {
+            let Ok(mut entry) = before.copy(alloc) else {
+                return Err(AllocError);
+            };
+            if entry.move_side(row, former.model, model, &kept.mult, steps) {
+                return Ok(entry);
+            }
+            drop(entry);
+            entry_by(
+                alloc,
+                model,
+                pool,
+                region,
+                &kept.mult,
+                &kept.farkas,
+                true,
+                steps,
+            )
+        }
+    }
+}
+
+/// The entry of a leaf, copied or moved from before or computed from nothing; `None` where it is due.
 fn entry_at<L: Ledger>(
     alloc: Global,
     former: &Option<Former<'_>>,
@@ -87,7 +142,16 @@ fn entry_at<L: Ledger>(
 {
     match way_of(former, model, pool, region, kept) {
         Way::FromCost(_) => Ok(None),
-        Way::Anew => match entry_by(alloc, model, pool, region, &kept.mult, &kept.farkas, steps) {
+        Way::Anew => match entry_by(
+            alloc,
+            model,
+            pool,
+            region,
+            &kept.mult,
+            &kept.farkas,
+            false,
+            steps,
+        ) {
             Ok(entry) => Ok(Some(entry)),
             Err(error) => Err(error),
         },
@@ -96,10 +160,28 @@ fn entry_at<L: Ledger>(
                 Ok(entry) => Ok(Some(entry)),
                 Err(error) => Err(error),
             },
-            None => match entry_by(alloc, model, pool, region, &kept.mult, &kept.farkas, steps) {
+            None => match entry_by(
+                alloc,
+                model,
+                pool,
+                region,
+                &kept.mult,
+                &kept.farkas,
+                false,
+                steps,
+            ) {
                 Ok(entry) => Ok(Some(entry)),
                 Err(error) => Err(error),
             },
+        },
+        Way::FromSide(row) => match former {
+            None => unreachable!(),
+            Some(before) => {
+                match moved_entry(alloc, before, model, pool, row, id, region, kept, steps) {
+                    Ok(entry) => Ok(Some(entry)),
+                    Err(error) => Err(error),
+                }
+            }
         },
     }
 }
@@ -180,7 +262,8 @@ fn walk_tree<L: Ledger>(
     tree.visit_leaves(&mut numbering)
 }
 
-/// The entry of each leaf of a tree. What an edit spares stands as it was, and what stands before another cost is gone on with.
+/// The entry of each leaf of a tree. What an edit spares stands as it was, what stands before another cost is gone on with, and what other sides
+/// of a row move is moved.
 pub(crate) fn numbers_of<L: Ledger>(
     alloc: Global,
     model: &Model,

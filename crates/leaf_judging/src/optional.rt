@@ -13,10 +13,11 @@ use std::marker::Model;
 use std::sync::ledger::Ledger;
 
 /// The number of a list of a leaf, gone on with from the last total that is kept. Cuts behind the last one that the list names
-/// are left out: their weight is 0.
+/// are left out: their weight is 0. `LeafTotals::go_on` says what is sought.
 pub(crate) fn list_number<L: Ledger>(
     totals: &mut LeafTotals,
     leaf: &Leaf<'_>,
+    seeks: bool,
     steps: &mut Steps<L>,
 ) -> Result<LagValue, WideStep>
     requires narrow { AreNarrow leaf.now.region.now }
@@ -37,7 +38,7 @@ pub(crate) fn list_number<L: Ledger>(
         mult: leaf.mult,
         costed: leaf.costed,
     };
-    totals.go_on(&front, steps)
+    totals.go_on(&front, seeks, steps)
 }
 
 /// A value on the heap.
@@ -70,6 +71,7 @@ impl OptionalTotals {
         ensures kept { IfOk result (λ t. t.totals.kept ≡ []) }
         ensures room { IfOk result (λ t. t.totals.room ≡ room) }
         ensures ending { IfOk result (λ t. t.ending ≡ None) }
+        ensures over { IfOk result (λ t. t.over ≡ None) }
     {
         if room == 0 {
             return Ok(OptionalTotals { held: None });
@@ -113,7 +115,7 @@ impl OptionalTotals {
         let Some(mut held) = self.held.take() else {
             unreachable!()
         };
-        let number = list_number(&mut *held, leaf, steps);
+        let number = list_number(&mut *held, leaf, false, steps);
         self.held = Some(held);
         number
     }

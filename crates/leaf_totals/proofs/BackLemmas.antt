@@ -1,5 +1,5 @@
 -- What stands of a leaf's totals under another question.
-use Rattle.std.specs.Prelude.{◌≡◌, ℕ, zero, suc, ◌+◌, ◌-◌, ◌*◌, ◌/◌, ◌≤◌, ◌<◌, Bool, true, false, nat_lt, List, length, take, Option, Some, None}
+use Rattle.std.specs.Prelude.{◌≡◌, ℕ, zero, suc, ◌+◌, ◌-◌, ◌*◌, ◌/◌, ◌≤◌, ◌<◌, Bool, true, false, nat_lt, ℤ, List, length, take, Option, Some, None, IfSome}
 use Rattle.std.proofs.Common.{refl, sym, ap, subst, ◌∙◌, arith, true≢false, ltb-true, ltb-false, lt-ltb}
 use Rattle.std.proofs.lemmas.List.{length-take-le}
 use Rattle.frac128.specs.Rational.{ℚ}
@@ -9,7 +9,7 @@ use Rattle.lp_model.specs.declared.types.Var.TheVariants.{Col, Row, Cut}
 use Rattle.leaf_totals.specs.declared.end.End.{End}
 use Rattle.leaf_totals.specs.declared.end.End.TheVariants.{Missing, Wide, WideEntry}
 use Rattle.leaf_totals.specs.declared.keeping.LeafTotals.{LeafTotals}
-use Rattle.leaf_totals.specs.Keeping.{Question, IsKeptTotal, AreKeptTotals, IsTermsEnd, IsEnding, AreTrueTotals, AreComplete, AreCutTo, kept_before, kept_at, kept_to, kept_most, terms_behind, left_behind}
+use Rattle.leaf_totals.specs.Keeping.{Question, IsKeptTotal, AreKeptTotals, IsTermsEnd, IsEnding, IsSumOfShortTerms, AreTrueTotals, AreComplete, AreCutTo, kept_before, kept_at, kept_to, kept_most, terms_behind, left_behind}
 use Rattle.leaf_totals.specs.Likeness.{is_term_before, ends_before, has_ended, AreLikeTo, IsBackWhere, IsBack, KeptBackLaw, LikenessLaw}
 
 module _ (j : ℕ) (q r : Question) (like : AreLikeTo j q r) where
@@ -42,6 +42,11 @@ end-many j (Missing of) e = variable-many j of e
 end-many j (Wide of) e = variable-many j of e
 end-many j (WideEntry col by) e = let above : j ≤ col.0 = ltb-false col.0 j e in omega (arith, above)
 
+-- no totals that ended are those of a number whose terms are known to be short
+pub ended-over : (q r : Question) (t : LeafTotals) (end : End) → t.ending ≡ Some end → (o : Option ℤ) → IfSome o (IsSumOfShortTerms q t) → IfSome o (IsSumOfShortTerms r t)
+ended-over q r t end is None h = h
+ended-over q r t end is (Some d) h = let none = h.ended in cc
+
 module _ (j : ℕ) (q r : Question) (like : AreLikeTo j q r) (old new : LeafTotals) (are : AreTrueTotals q old) where
   -- cut to those before the column
   cut-back : j / 64 + 2 ≤ length old.totals.kept → AreCutTo (j / 64 + 2) old new → IsBack j r new
@@ -59,6 +64,7 @@ module _ (j : ℕ) (q r : Question) (like : AreLikeTo j q r) (old new : LeafTota
             kept = subst (AreKeptTotals r) (sym cut.kept) (all-like j q r like (take (j / 64 + 2) old.totals.kept) few taken);
             few = omega (arith, count, within);
             ending = subst (IsEnding r) (sym cut.ending) tt;
+            over = subst (λ o. IfSome o (IsSumOfShortTerms r new)) (sym cut.over) tt;
           };
           ended = λ some. absurd (some cut.ending);
         };
@@ -80,6 +86,7 @@ module _ (j : ℕ) (q r : Question) (like : AreLikeTo j q r) (old new : LeafTota
             kept = all-like j q r like old.totals.kept (omega (arith, few, count)) are.kept;
             few = omega (arith, few, count, within);
             ending = subst (IsEnding r) (sym is) (like.ends end before ends);
+            over = ended-over q r old end is old.over are.over;
           };
           ended = λ some. count ∙ sym (ap (kept_to r) is);
         };

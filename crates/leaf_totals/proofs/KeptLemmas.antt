@@ -1,5 +1,5 @@
 -- Lists of a leaf's kept totals.
-use Rattle.std.specs.Prelude.{◌≡◌, ◌≢◌, ℕ, zero, suc, ◌+◌, ◌-◌, ◌*◌, ◌/◌, ◌≤◌, Some, None, List, [], ◌∷◌, ◌++◌, length, take}
+use Rattle.std.specs.Prelude.{◌≡◌, ◌≢◌, ℕ, zero, suc, ◌+◌, ◌-◌, ◌*◌, ◌/◌, ◌≤◌, ℤ, Option, Some, None, IfSome, List, [], ◌∷◌, ◌++◌, length, take}
 use Rattle.std.proofs.Common.{sym, ap, subst, ◌∙◌, arith}
 use Rattle.std.proofs.lemmas.List.{length-take-le, take_all}
 use Rattle.frac128.specs.Rational.{ℚ}
@@ -7,9 +7,11 @@ use Rattle.kept_totals.specs.Kept.{RunningTotals, IsBackAt, with_kept}
 use Rattle.kept_totals.specs.Walk.{AllFrom, IsBlockTotal, KeepsMore, IsSumStop, stop_place}
 use Rattle.kept_totals.specs.declared.walk.Stop.{Stop}
 use Rattle.kept_totals.proofs.WalkLemmas.{all_last, all_appended, all_next, none_added}
+use Rattle.whole_sums.specs.Wholes.{IsDenominator}
 use Rattle.leaf_dual.specs.Answers.{row_number, cut_number}
 use Rattle.leaf_totals.specs.declared.end.End.{End}
-use Rattle.leaf_totals.specs.Keeping.{Question, rows_start, cuts_start, columns_start, asked_reduced, asked_bound, HasSideOfRow, HasSideOfCut, HasTermOfColumn, AreRowsReached, AreCutsReached, IsBeforeRow, IsBeforeCut, IsBeforeColumn, IsKeptTotal, AreKeptTotals, kept_most, terms_behind, IsTermsEnd, kept_at, row_end, cut_end, IsColumnEnd, AreAllAdded, IsEndedBy}
+use Rattle.leaf_totals.specs.declared.keeping.LeafTotals.{LeafTotals}
+use Rattle.leaf_totals.specs.Keeping.{Question, rows_start, cuts_start, columns_start, asked_reduced, asked_bound, HasSideOfRow, HasSideOfCut, HasTermOfColumn, AreRowsReached, AreCutsReached, IsBeforeRow, IsBeforeCut, IsBeforeColumn, IsKeptTotal, AreKeptTotals, kept_most, terms_behind, IsTermsEnd, kept_at, row_end, cut_end, IsColumnEnd, AreShortFor, AreAllAdded, IsSumOfShortTerms, IsEndedBy}
 use Rattle.leaf_totals.proofs.EndLemmas.{row_ends, cut_ends, column_ends}
 
 module _ (q : Question) where
@@ -163,3 +165,16 @@ module _ (q : Question) where
 
 pub some_end : (e : End) → Some e ≢ None
 some_end e is = cc
+
+-- ---- whether all terms are known to be short
+
+abbrev pub SaysShort : Question → Option End → ℤ → Type 0
+SaysShort q r d = (r ≡ None) × (IsDenominator d × AreShortFor d q)
+
+pub added_over : (q : Question) (t : LeafTotals) (r : Option End) → AreAllAdded q t.totals → t.ending ≡ None → (o : Option ℤ) → IfSome o (SaysShort q r) → IfSome o (IsSumOfShortTerms q t)
+added_over q t r all none None h = h
+added_over q t r all none (Some d) h = record { denominator = h.1.0; terms = h.1.1; added = all; ended = none }
+
+pub ended_over : (q : Question) (t : LeafTotals) (r : Option End) (e : End) → r ≡ Some e → (o : Option ℤ) → IfSome o (SaysShort q r) → IfSome o (IsSumOfShortTerms q t)
+ended_over q t r e is None h = h
+ended_over q t r e is (Some d) h = absurd (some_end e (sym is ∙ h.0))

@@ -1,11 +1,13 @@
 -- The totals of a leaf's number that are kept: after the rows, after the cuts, and after each 64th column, as far as the first term
 -- that is missing or whose step has no room.
 --     Question                     what a number is asked of
---     AreTrueTotals q t            the kept totals are those of q, and what they end in is so
+--     AreTrueTotals q t            the kept totals are those of q, what they end in is so, and where a denominator is noted all terms are
+--                                  short numbers over it, and the running total is the number
 --     AreComplete q t              as many are kept as there are before the end
 --     steps_left q t               how many terms stand behind the last one
-use Rattle.std.specs.Prelude.{◌≡◌, ◌≢◌, ◌<◌, ◌≤◌, ◌+◌, ◌-◌, ◌*◌, ◌/◌, ℕ, zero, suc, Bool, List, length, take, Option, Some, None, Result}
+use Rattle.std.specs.Prelude.{◌≡◌, ◌≢◌, ◌<◌, ◌≤◌, ◌+◌, ◌-◌, ◌*◌, ◌/◌, ℕ, zero, suc, ℤ, Bool, List, length, take, Option, Some, None, IfSome, Result}
 use Rattle.frac128.specs.Rational.{ℚ}
+use Rattle.whole_sums.specs.Wholes.{IsDenominator}
 use Rattle.kept_totals.specs.Kept.{RunningTotals}
 use Rattle.kept_totals.specs.declared.walk.Stop.{Stop}
 use Rattle.kept_totals.specs.declared.walk.Stop.TheVariants as stop
@@ -21,6 +23,7 @@ use Rattle.leaf_dual.specs.declared.leaf.Leaf.{Leaf}
 use Rattle.leaf_dual.specs.declared.whole_leaf.WholeLeaf.{WholeLeaf}
 use Rattle.leaf_dual.specs.Dual.{Multipliers, multiplier, cut_weight, row_side, cut_side, column_side, column_reduced_cost}
 use Rattle.leaf_dual.specs.Answers.{row_number, cut_number, bound_number, rows_total, cuts_total, EntriesFit, IsFirstWideEntry, IsFirstWideTerm, IsFirstWidePlace, IsFirstWideStep, IsDualAnswer}
+use Rattle.leaf_dual.specs.ShortTerms.{AreShortTerms}
 use Rattle.leaf_dual.specs.Parts.{constant_of, cost_of, leaf_formulation, leaf_constant, costs, weights, cut_weights}
 use Rattle.leaf_totals.specs.declared.end.End.{End}
 use Rattle.leaf_totals.specs.declared.end.End.TheVariants.{Missing, Wide, WideEntry}
@@ -134,10 +137,29 @@ abbrev pub IsEnding : Question → Option End → Type 0
 IsEnding q None = Unit {0}
 IsEnding q (Some end) = IsTermsEnd q end
 
+-- all terms of a question are short numbers over a denominator
+abbrev pub AreShortFor : ℤ → Question → Type 0
+AreShortFor d q = AreShortTerms d q.form q.path q.row_weights q.live_weights q.constant q.costs
+
+-- all terms are there, each step has room, and the total is that of all; all totals are kept
+pub record AreAllAdded (q : Question) (t : RunningTotals) : Type 0 where
+  pub rows : AreRowsReached q
+  pub cuts : AreCutsReached q
+  pub columns : IsBeforeColumn q (length q.form.model.cols) t.total
+  pub count : length t.kept ≡ kept_most q
+
+-- all were added, so that the running total is the number, and each is a short number over d
+pub record IsSumOfShortTerms (q : Question) (t : LeafTotals) (d : ℤ) : Type 0 where
+  pub denominator : IsDenominator d
+  pub terms : AreShortFor d q
+  pub added : AreAllAdded q t.totals
+  pub ended : t.ending ≡ None
+
 pub record AreTrueTotals (q : Question) (t : LeafTotals) : Type 0 where
   pub kept : AreKeptTotals q t.totals.kept
   pub few : length t.totals.kept ≤ kept_most q
   pub ending : IsEnding q t.ending
+  pub over : IfSome t.over (IsSumOfShortTerms q t)
 
 -- ---- how many are kept
 
@@ -192,13 +214,6 @@ IsColumnEnd q (stop.Missing j) (Wide of) = ⊥
 IsColumnEnd q (stop.Missing j) (WideEntry col by) = (col ≡ record { 0 = j }) × IsFirstWideEntry q.form q.row_weights q.live_weights q.costs j by
 IsColumnEnd q (stop.Wide j) end = end ≡ Wide (Col (record { 0 = j }))
 
--- all terms are there, each step has room, and the total is that of all; all totals are kept
-pub record AreAllAdded (q : Question) (t : RunningTotals) : Type 0 where
-  pub rows : AreRowsReached q
-  pub cuts : AreCutsReached q
-  pub columns : IsBeforeColumn q (length q.form.model.cols) t.total
-  pub count : length t.kept ≡ kept_most q
-
 -- those before the end are kept
 pub record IsEndedBy (q : Question) (t : RunningTotals) (end : End) : Type 0 where
   pub ends : IsTermsEnd q end
@@ -210,4 +225,5 @@ pub record IsEndedBy (q : Question) (t : RunningTotals) (end : End) : Type 0 whe
 pub record AreCutTo (k : ℕ) (old new : LeafTotals) : Type 0 where
   pub kept : new.totals.kept ≡ take k old.totals.kept
   pub ending : new.ending ≡ None
+  pub over : new.over ≡ None
   pub room : new.totals.room ≡ old.totals.room

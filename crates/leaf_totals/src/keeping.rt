@@ -1,28 +1,31 @@
 // The totals of a leaf's number that are kept on the way, so that a number of which a term changes is gone on with from there.
-ghost use Rattle.std.specs.Prelude.{◌≡◌, ◌≢◌, ◌+◌, ◌<◌, ◌≤◌, [], length, take, None, MatchOption, IfOk, OnOk, OnErr};
+ghost use Rattle.std.specs.Prelude.{◌≡◌, ◌≢◌, ◌+◌, ◌<◌, ◌≤◌, [], length, take, None, MatchOption, IfSome, IfOk};
+ghost use Rattle.whole_sums.specs.Wholes.{IsDenominator};
 ghost use Rattle.lp_model.specs.Regions.{AreNarrow};
 ghost use Rattle.leaf_dual.specs.Dual.{HavePlaces};
-ghost use Rattle.leaf_totals.specs.Keeping.{question_of, AnswersQuestion, AreKeptTotals, AreTrueTotals, AreComplete, AreCutTo, AreAllAdded, IsEndedBy, IsTermsEnd, IsFirstWideFor, kept_most, terms_behind, steps_left};
+ghost use Rattle.leaf_totals.specs.Keeping.{question_of, AnswersQuestion, AreKeptTotals, AreTrueTotals, AreComplete, AreCutTo, AreShortFor, AreAllAdded, IsEndedBy, IsTermsEnd, IsFirstWideFor, kept_most, terms_behind, steps_left};
 
 use crate::end::End;
 use crate::walk::walk;
 use frac128::Frac;
 use kept_totals::{Steps, Totals};
 use leaf_dual::{
-    CUT_PLACES, LagValue, Leaf, ROW_PLACES, WholeLeaf, common_denominator, write_cuts, write_nexts,
-    write_rows,
+    COLUMN_PLACES, CUT_PLACES, LagValue, Leaf, ROW_PLACES, WholeLeaf, common_denominator,
+    mark_named, write_cuts, write_nexts, write_rows,
 };
 use lp_model::WideStep;
 use std::alloc::{AllocError, Global};
 use std::marker::Brand;
 use std::sync::ledger::{Blank, Ledger};
 
-/// The totals of a leaf's number after the rows, after the cuts and after each 64th column, as far as they go, and what the walk
-/// ended in before the last column, if it is known to end in something.
+/// The totals of a leaf's number after the rows, after the cuts and after each 64th column, as far as they go, what the walk
+/// ended in before the last column, if it is known to end in something, and the denominator over which all terms are short numbers,
+/// if they were all added and that was seen: then the running total is the number.
 #[derive(Drop)]
 pub struct LeafTotals {
     pub totals: Totals,
     pub ending: Option<End>,
+    pub over: Option<i64>,
 }
 
 /// Keeps the first so many totals.
@@ -70,8 +73,15 @@ fn walk_in_fractions<L: Ledger>(
     walk(totals, &whole, steps)
 }
 
-/// `walk` of the leaf, in whole numbers over a denominator of the multipliers where those can be had.
-fn walk_leaf<L: Ledger>(totals: &mut Totals, leaf: &Leaf<'_>, steps: &mut Steps<L>) -> Option<End>
+/// `walk` of the leaf, in whole numbers over a denominator of the multipliers where those can be had. Tells the denominator where that
+/// is sought, the walk ends behind the last column, and all terms are seen to be short numbers over it.
+fn walk_leaf<L: Ledger>(
+    totals: &mut Totals,
+    leaf: &Leaf<'_>,
+    seeks: bool,
+    over: &mut Option<i64>,
+    steps: &mut Steps<L>,
+) -> Option<End>
     requires narrow { AreNarrow leaf.now.region.now }
     requires places { HavePlaces leaf.now.cuts.now }
     requires few { length totals.old.kept ≤ kept_most (question_of leaf.now) }
@@ -79,10 +89,12 @@ fn walk_leaf<L: Ledger>(totals: &mut Totals, leaf: &Leaf<'_>, steps: &mut Steps<
     requires room { kept_most (question_of leaf.now) ≤ totals.old.room }
     ensures walk { MatchOption result (AreAllAdded (question_of leaf.now) totals.new) (λ e. IsEndedBy (question_of leaf.now) totals.new e) }
     ensures kept { AreKeptTotals (question_of leaf.now) totals.new.kept }
+    ensures over { IfSome over.new (λ d. (result ≡ None) × (IsDenominator d × AreShortFor d (question_of leaf.now))) }
     ensures room { totals.new.room ≡ totals.old.room }
     ensures rises { steps.old ≤ steps.new }
     ensures steps { steps.new ≤ steps.old + terms_behind (question_of leaf.now) (length totals.old.kept) }
 {
+    *over = None;
     let denominator = common_denominator(leaf.mult);
     let mut row_places = [0_i64; ROW_PLACES];
     let rows = &mut row_places[..leaf.model.rows().len().min(ROW_PLACES)];
@@ -97,7 +109,7 @@ fn walk_leaf<L: Ledger>(totals: &mut Totals, leaf: &Leaf<'_>, steps: &mut Steps<
     }
     let mut next = [0_usize; CUT_PLACES];
     write_nexts(cuts, known, &mut next);
-    let whole = WholeLeaf {
+    let plain = WholeLeaf {
         leaf: *leaf,
         denominator,
         rows,
@@ -108,7 +120,34 @@ fn walk_leaf<L: Ledger>(totals: &mut Totals, leaf: &Leaf<'_>, steps: &mut Steps<
         costs_known: 0,
         named: &[],
     };
-    walk(totals, &whole, steps)
+    let most = if totals.count() < 3 { COLUMN_PLACES } else { 0 };
+    let mut lefts = [0_i64; COLUMN_PLACES];
+    let costs_known = plain.write_costs_left(most, &mut lefts);
+    let mut named = [false; COLUMN_PLACES];
+    mark_named(leaf.region, &mut named);
+    let whole = WholeLeaf {
+        leaf: *leaf,
+        denominator,
+        rows,
+        cuts,
+        next: &next,
+        known,
+        costs_left: &lefts,
+        costs_known,
+        named: &named,
+    };
+    match walk(totals, &whole, steps) {
+        Some(end) => Some(end),
+        None => {
+            if seeks {
+                if whole.has_short_terms() {
+                    *over = Some(denominator);
+                    return None;
+                }
+            }
+            None
+        }
+    }
 }
 
 /// The answer where a step is the first without room: `Minus` where a side or a bound is missing.
@@ -147,11 +186,13 @@ impl LeafTotals {
         ensures kept { IfOk result (λ t. t.totals.kept ≡ []) }
         ensures room { IfOk result (λ t. t.totals.room ≡ room) }
         ensures ending { IfOk result (λ t. t.ending ≡ None) }
+        ensures over { IfOk result (λ t. t.over ≡ None) }
     {
         let totals = Totals::new(alloc, room)?;
         Ok(LeafTotals {
             totals,
             ending: None,
+            over: None,
         })
     }
 
@@ -163,13 +204,15 @@ impl LeafTotals {
         Ok(LeafTotals {
             totals,
             ending: self.ending,
+            over: self.over,
         })
     }
 
-    /// Adds the terms behind the last total that is kept.
+    /// Adds the terms behind the last total that is kept, and looks whether they are short where that is sought.
     fn add<L: Ledger>(
         &mut self,
         leaf: &Leaf<'_>,
+        seeks: bool,
         steps: &mut Steps<L>,
     ) -> Result<LagValue, WideStep>
         requires narrow { AreNarrow leaf.now.region.now }
@@ -183,7 +226,7 @@ impl LeafTotals {
         ensures rises { steps.old ≤ steps.new }
         ensures steps { steps.new ≤ steps.old + terms_behind (question_of leaf.now) (length self.old.totals.kept) }
     {
-        match walk_leaf(&mut self.totals, leaf, steps) {
+        match walk_leaf(&mut self.totals, leaf, seeks, &mut self.over, steps) {
             None => {
                 self.ending = None;
                 Ok(LagValue::Num(self.totals.value()))
@@ -196,10 +239,12 @@ impl LeafTotals {
     }
 
     /// Goes on from the last total that is kept to the last term, to the first whose side or bound is missing, or to the first
-    /// step without room, and answers the leaf's number. Where it is known what the walk ends in, no step is made.
+    /// step without room, and answers the leaf's number. Where it is known what the walk ends in, no step is made. Whether all terms are
+    /// short numbers is looked at where that is sought: nothing rests on it but how dear an edit of a row's side is.
     pub fn go_on<L: Ledger>(
         &mut self,
         leaf: &Leaf<'_>,
+        seeks: bool,
         steps: &mut Steps<L>,
     ) -> Result<LagValue, WideStep>
         requires narrow { AreNarrow leaf.now.region.now }
@@ -215,7 +260,7 @@ impl LeafTotals {
         ensures steps { steps.new ≤ steps.old + steps_left (question_of leaf.now) self.old }
     {
         match &self.ending {
-            None => self.add(leaf, steps),
+            None => self.add(leaf, seeks, steps),
             Some(end) => answer_of_end(leaf, end),
         }
     }
@@ -236,7 +281,7 @@ impl LeafTotals {
         ensures room { self.new.totals.room ≡ self.old.totals.room }
     {
         let mut steps: Steps<L> = Steps::new(blank);
-        self.go_on(leaf, &mut steps)
+        self.go_on(leaf, false, &mut steps)
     }
 
     /// `go_on` with a counter that nobody looks at.
@@ -260,16 +305,6 @@ impl LeafTotals {
     {
         keep_first(&mut self.totals, count);
         self.ending = None;
-    }
-
-    /// Makes room to keep so many.
-    pub fn reserve(&mut self, room: usize) -> Result<(), AllocError>
-        requires { self.old.totals.room ≤ room }
-        ensures room { OnOk result (self.new.totals.room ≡ room) }
-        ensures kept { OnOk result (self.new.totals.kept ≡ self.old.totals.kept) }
-        ensures ending { OnOk result (self.new.ending ≡ self.old.ending) }
-        ensures same { OnErr result (self.new ≡ self.old) }
-    {
-        self.totals.reserve(room)
+        self.over = None;
     }
 }

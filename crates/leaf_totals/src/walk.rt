@@ -9,7 +9,7 @@ ghost use Rattle.leaf_totals.specs.Keeping.{question_of, question_by, row_end, c
 
 use crate::end::End;
 use kept_totals::{PartialTerms, Steps, Stop, Totals, add_blocks, add_terms};
-use leaf_dual::{COLUMN_PLACES, ColumnParts, CutParts, Leaf, RowParts, WholeLeaf, mark_named};
+use leaf_dual::{ColumnParts, CutParts, Leaf, RowParts, WholeLeaf};
 use lp_model::{ColId, CutId, RowId, Var};
 use std::sync::ledger::Ledger;
 
@@ -138,24 +138,7 @@ fn add_columns<L: Ledger>(
 {
     let _lawful = whole.leaf.model.cols();
     let blocks = totals.count() - 2;
-    let most = if blocks == 0 { COLUMN_PLACES } else { 0 };
-    let mut lefts = [0_i64; COLUMN_PLACES];
-    let costs_known = whole.write_costs_left(most, &mut lefts);
-    let mut named = [false; COLUMN_PLACES];
-    mark_named(whole.leaf.region, &mut named);
-    let parts = ColumnParts {
-        whole: WholeLeaf {
-            leaf: whole.leaf,
-            denominator: whole.denominator,
-            rows: whole.rows,
-            cuts: whole.cuts,
-            next: whole.next,
-            known: whole.known,
-            costs_left: &lefts,
-            costs_known,
-            named: &named,
-        },
-    };
+    let parts = ColumnParts { whole: *whole };
     match add_blocks(totals, &parts, blocks, steps) {
         Ok(()) => None,
         Err(stop) => Some(column_end(&whole.leaf, &stop)),

@@ -1,7 +1,9 @@
 pub mod LikeTerms
 pub mod LikeQuestions
 pub mod LikeTotals
+pub mod LikeShort
 pub mod LikeAnswers
+pub mod MovedSides
 pub mod LikeEdits
 pub mod LikePools
 pub mod ListWalks

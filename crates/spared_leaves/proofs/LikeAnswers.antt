@@ -20,17 +20,18 @@ use Rattle.leaf_dual.specs.Dual.{Multipliers, multiplier, is_row_variable, is_cu
 use Rattle.leaf_dual.specs.Answers.{IsDualAnswer, IsLagAnswer, IsFarkasAnswer}
 use Rattle.leaf_dual.proofs.CutLemmas.{weight-live, weight-dead}
 use Rattle.spared_leaves.specs.declared.touched.Touched.{Touched}
-use Rattle.spared_leaves.specs.declared.touched.Touched.TheVariants.{Nothing, OneRow, OneCost, OneColumn}
-use Rattle.spared_leaves.specs.Touched.{leaves_row, cost_touched, column_touched, is_apart, leaves_cost, leaves_column, leaves_cut, leaves_variable, leaves_list}
+use Rattle.spared_leaves.specs.declared.touched.Touched.TheVariants.{Nothing, OneRow, RowSides, OneCost, OneColumn}
+use Rattle.spared_leaves.specs.Touched.{leaves_row, leaves_entries, cost_touched, column_touched, is_apart, leaves_cost, leaves_column, leaves_cut, leaves_variable, leaves_list}
 use Rattle.spared_leaves.specs.Alike.{IsSameRange, IsSameCut, AreAlikeBut, AreAlikeCuts}
 use Rattle.spared_leaves.specs.Laws.{LikeAnswersLaw, LikeRegionsLaw, LikeLagTotalsLaw, LikeFarkasTotalsLaw, LikeCostTotalsLaw}
 use Rattle.spared_leaves.specs.Questions.{IsQuietColumn, IsSameColumn, IsLikeQuestion}
-use Rattle.spared_leaves.specs.Spared.{IsQuietLag, IsQuietFarkas, HasInEach, IsCrossedIn, KeepsCrossing}
+use Rattle.spared_leaves.specs.Spared.{IsQuietLag, IsQuietFarkas, HasInEach, IsCrossedIn, KeepsCrossing, KeepsShort}
 use Rattle.leaf_totals.specs.Keeping.{list_question}
 use Rattle.leaf_totals.specs.Likeness.{AreLikeTo, question_with}
 use Rattle.leaf_totals.proofs.BackLemmas.{on_to_third}
 use Rattle.leaf_totals.proofs.CostLemmas.{other_costs}
 use Rattle.spared_leaves.proofs.LikeTotals.{like_totals}
+use Rattle.spared_leaves.proofs.LikeShort.{like_short}
 use Rattle.spared_leaves.proofs.LikeQuestions.{question-back, lacks-like, answer-like}
 
 -- ---- what a list does not name
@@ -70,14 +71,23 @@ module _ (t : Touched) (cuts others : List CutRow) where
 column-left : (t : Touched) (j : ℕ) → leaves_cost t j ≡ true → leaves_column t j ≡ true
 column-left Nothing j left = refl
 column-left (OneRow row) j left = refl
+column-left (RowSides row) j left = refl
 column-left (OneCost col) j left = refl
 column-left (OneColumn col) j left = left
 
+-- where a row is not touched, its coefficients are not
+entries-left : (t : Touched) (i : ℕ) → leaves_row t i ≡ true → leaves_entries t i ≡ true
+entries-left Nothing i left = refl
+entries-left (OneRow row) i left = left
+entries-left (RowSides row) i left = refl
+entries-left (OneCost col) i left = refl
+entries-left (OneColumn col) i left = refl
+
 module _ (t : Touched) (M N : Program) (alike : AreAlikeBut t M N) where
-  constant-alike : least_constant M ≡ least_constant N
+  pub constant-alike : least_constant M ≡ least_constant N
   constant-alike = λ i. in_least_form (alike.sense i) (alike.constant_is i)
 
-  costs-alike : (j : ℕ) → leaves_cost t j ≡ true → least_cost M j ≡ least_cost N j
+  pub costs-alike : (j : ℕ) → leaves_cost t j ≡ true → least_cost M j ≡ least_cost N j
   costs-alike j left = λ i. in_least_form (alike.sense i) (alike.cost_is j left i)
 
 module _ (M N : Program) (j : ℕ) (same : IsSameRange M N j) (path : Path) where
@@ -115,7 +125,7 @@ module _ (t : Touched) (M N : Program) (cuts others : List CutRow) (alike : AreA
       by false true e f = sym (cut-none t cuts others mult k left (λ i. if e i then f i else not (f i)))
       by false false e f = refl
 
-  weights : ◌≡◌ {A = ℕ → ℚ} (cut_weight cuts mult) (cut_weight others mult)
+  pub weights : ◌≡◌ {A = ℕ → ℚ} (cut_weight cuts mult) (cut_weight others mult)
   weights = λ i k. weight-same k i
 
   rows-left : (i : ℕ) → (multiplier mult i ≡ int (pos 0)) ⊎ (leaves_row t i ≡ true)
@@ -136,13 +146,13 @@ module _ (t : Touched) (M N : Program) (cuts others : List CutRow) (alike : AreA
   module _ (c d : ℕ → ℚ) (col : Option ColId) (costs_are : (j : ℕ) → is_apart col j ≡ true → c j ≡ d j) (columns_left : (j : ℕ) → is_apart col j ≡ true → leaves_column t j ≡ true)
       (quiet : (j : ℕ) → is_apart col j ≡ false
       → (j < length M.cols → IsQuietColumn (formulation M cuts) path (multiplier mult) (cut_weight cuts mult) c j) × (j < length N.cols → IsQuietColumn (formulation N others) path (multiplier mult) (cut_weight cuts mult) d j)) where
-    same-column : (j : ℕ) → is_apart col j ≡ true → IsSameColumn M N path cuts others (multiplier mult) (cut_weight cuts mult) c d j
+    pub same-column : (j : ℕ) → is_apart col j ≡ true → IsSameColumn M N path cuts others (multiplier mult) (cut_weight cuts mult) c d j
     same-column j apart = record {
       there = (alike.columns j (columns_left j apart)).there;
       cost_is = costs_are j apart;
       low = low-alike M N j (alike.columns j (columns_left j apart)) path;
       high = high-alike M N j (alike.columns j (columns_left j apart)) path;
-      entry = λ i. elim (rows-left i) [ inl none ↦ inl none | inr kept ↦ inr (alike.entry i j kept (columns_left j apart), (alike.rows i kept).there) ];
+      entry = λ i. elim (rows-left i) [ inl none ↦ inl none | inr kept ↦ inr (alike.entry i j (entries-left t i kept) (columns_left j apart), (alike.rows i kept).there) ];
       cut_entry = λ k. elim (cuts-alike k) [ inl none ↦ inl none | inr same ↦ inr (same.entry j, same.there) ];
     }
 
@@ -152,7 +162,7 @@ module _ (t : Touched) (M N : Program) (cuts others : List CutRow) (alike : AreA
     column-like j true apart = inl (same-column j apart)
     column-like j false touched = inr (quiet j touched)
 
-    question : IsLikeQuestion M N path cuts others (multiplier mult) (cut_weight cuts mult) c d
+    pub question : IsLikeQuestion M N path cuts others (multiplier mult) (cut_weight cuts mult) c d
     question = record {
       rows_are = λ i. elim (rows-left i) [ inl none ↦ inl none | inr kept ↦ inr (alike.rows i kept) ];
       cuts_are = λ k. elim (cuts-alike k) [ inl none ↦ inl none | inr same ↦ inr (record { there = same.there; high = same.high }) ];
@@ -164,6 +174,9 @@ module _ (t : Touched) (M N : Program) (cuts others : List CutRow) (alike : AreA
 
     totals-to : (c₀ : ℚ) → length M.cols ≤ length N.cols → AreLikeTo (length M.cols) (question_with (formulation M cuts) path (multiplier mult) (cut_weight cuts mult) c₀ c) (question_with (formulation N others) path (multiplier mult) (cut_weight cuts mult) c₀ d)
     totals-to c₀ more = like_totals M N path cuts others (multiplier mult) (cut_weight cuts mult) c d c₀ question more
+
+    short-to : (c₀ : ℚ) → KeepsShort (formulation M cuts) (formulation N others) (question_with (formulation M cuts) path (multiplier mult) (cut_weight cuts mult) c₀ c) (question_with (formulation N others) path (multiplier mult) (cut_weight cuts mult) c₀ d)
+    short-to c₀ = like_short M N path cuts others (multiplier mult) (cut_weight cuts mult) c d c₀ question
 
     module _ (c₀ : ℚ) (r : Result LagValue WideStep) where
       answer-to : IsDualAnswer (formulation M cuts) path (multiplier mult) (cut_weight cuts mult) c₀ c r → IsDualAnswer (formulation N others) path (multiplier mult) (cut_weight cuts mult) c₀ d r
@@ -198,6 +211,17 @@ module _ (t : Touched) (M N : Program) (cuts others : List CutRow) (alike : AreA
   lag-totals quiet more =
       subst (λ P. P) (λ i. AreLikeTo (length M.cols) (question_with (formulation M cuts) path (multiplier mult) (cut_weight cuts mult) (least_constant M) (least_cost M)) (question_with (formulation N others) path (multiplier mult) (weights i) (constant-alike t M N alike i) (least_cost N)))
       (totals-to (least_cost M) (least_cost N) (cost_touched t) (costs-alike t M N alike) (column-left t) (λ j touched. quiet-here (least_cost M) (least_cost N) j (quiet j touched)) (least_constant M) more)
+
+  -- and whether all terms are known to be short
+  pub lag-short : HasInEach (IsQuietLag path mult) (cost_touched t) (formulation M cuts) (formulation N others) → KeepsShort (formulation M cuts) (formulation N others) (list_question (formulation M cuts) path mult true) (list_question (formulation N others) path mult true)
+  lag-short quiet =
+      subst (λ P. P) (λ i. KeepsShort (formulation M cuts) (formulation N others) (question_with (formulation M cuts) path (multiplier mult) (cut_weight cuts mult) (least_constant M) (least_cost M)) (question_with (formulation N others) path (multiplier mult) (weights i) (constant-alike t M N alike i) (least_cost N)))
+      (short-to (least_cost M) (least_cost N) (cost_touched t) (costs-alike t M N alike) (column-left t) (λ j touched. quiet-here (least_cost M) (least_cost N) j (quiet j touched)) (least_constant M))
+
+  pub farkas-short : HasInEach (IsQuietFarkas path mult) (column_touched t) (formulation M cuts) (formulation N others) → KeepsShort (formulation M cuts) (formulation N others) (list_question (formulation M cuts) path mult false) (list_question (formulation N others) path mult false)
+  farkas-short quiet =
+      subst (λ P. P) (λ i. KeepsShort (formulation M cuts) (formulation N others) (question_with (formulation M cuts) path (multiplier mult) (cut_weight cuts mult) (int (pos 0)) (λ j. int (pos 0))) (question_with (formulation N others) path (multiplier mult) (weights i) (int (pos 0)) (λ j. int (pos 0))))
+      (short-to (λ j. int (pos 0)) (λ j. int (pos 0)) (column_touched t) (λ j left. refl) (λ j left. left) (λ j touched. quiet-here (λ k. int (pos 0)) (λ k. int (pos 0)) j (quiet j touched)) (int (pos 0)))
 
   farkas-totals : HasInEach (IsQuietFarkas path mult) (column_touched t) (formulation M cuts) (formulation N others) → length M.cols ≤ length N.cols → AreLikeTo (length M.cols) (list_question (formulation M cuts) path mult false) (list_question (formulation N others) path mult false)
   farkas-totals quiet more =

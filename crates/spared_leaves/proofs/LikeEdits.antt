@@ -15,7 +15,7 @@ use Rattle.lp_model.specs.declared.types.Edit.{Edit}
 use Rattle.lp_model.specs.declared.types.Edit.TheVariants.{SetCost, SetCost2, SetRow, SetColBounds, SetKind, AddCol, DelCol, AddRow, DelRow, ReplaceRow}
 use Rattle.lp_model.proofs.ChangedLaws.{length-changed_at, of_element-changed_at, of_element-changed_other}
 use Rattle.spared_leaves.specs.declared.touched.Touched.{Touched}
-use Rattle.spared_leaves.specs.declared.touched.Touched.TheVariants.{Nothing, OneRow, OneCost, OneColumn}
+use Rattle.spared_leaves.specs.declared.touched.Touched.TheVariants.{Nothing, OneRow, RowSides, OneCost, OneColumn}
 use Rattle.spared_leaves.specs.Touched.{touched_by, leaves_row, is_apart}
 use Rattle.spared_leaves.specs.Alike.{IsSameRange, AreAlikeBut}
 use Rattle.spared_leaves.specs.Laws.{LikeEditsLaw}
@@ -133,7 +133,7 @@ module _ (M : Program) (k : ℕ) (f : Row → Row) where
   changed-sides : (g : Row → Option ℚ) (i : ℕ) → i ≢ k → of_element None g M.rows i ≡ of_element None g (changed_at f M.rows k) i
   changed-sides g i other = sym (of_element-changed_other f None g M.rows k i other)
 
-sides : (M : Program) (row : List ℕ) (lo hi : Option (Option ℚ)) → AreAlikeBut (OneRow (record { 0 = row_place M row })) M (edited M (SetRow row lo hi))
+sides : (M : Program) (row : List ℕ) (lo hi : Option (Option ℚ)) → AreAlikeBut (RowSides (record { 0 = row_place M row })) M (edited M (SetRow row lo hi))
 sides M row lo hi = record {
   sense = refl;
   constant_is = refl;

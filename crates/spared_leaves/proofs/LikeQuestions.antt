@@ -107,7 +107,7 @@ module _ (M N : Program) (path : Path) (cuts others : List CutRow) (y z c d : �
     | inr same ↦ (λ t. needed_side (y i) (same.low t) (same.high t))
   ]
 
-  row_terms : (i : ℕ) → IsLikeTerm y (row_number M y) y (row_number N y) (length M.rows) (length N.rows) i
+  pub row_terms : (i : ℕ) → IsLikeTerm y (row_number M y) y (row_number N y) (length M.rows) (length N.rows) i
   row_terms i = one-factor y (row_number M y) (row_number N y) (length M.rows) (length N.rows) i (elim (q.rows_are i) [ inl none ↦ inl none | inr same ↦ inr (ap side_number (row_side-like i), same.there) ])
 
   pub rows_total-like : rows_total M y c₀ ≡ rows_total N y c₀
@@ -139,7 +139,7 @@ module _ (M N : Program) (path : Path) (cuts others : List CutRow) (y z c d : �
     | inr same ↦ ap (needed_side (z k) None) same.high
   ]
 
-  cut_terms : (k : ℕ) → IsLikeTerm z (cut_number cuts z) z (cut_number others z) (length cuts) (length others) k
+  pub cut_terms : (k : ℕ) → IsLikeTerm z (cut_number cuts z) z (cut_number others z) (length cuts) (length others) k
   cut_terms k = one-factor z (cut_number cuts z) (cut_number others z) (length cuts) (length others) k (elim (q.cuts_are k) [ inl none ↦ inl none | inr same ↦ inr (ap side_number (cut_side-like k), same.there) ])
 
   pub cuts_total-like : cuts_total F y z c₀ ≡ cuts_total G y z c₀
@@ -187,7 +187,7 @@ module _ (M N : Program) (path : Path) (cuts others : List CutRow) (y z c d : �
     left-like : left_by_rows M y c j ≡ left_by_rows N y d j
     left-like = λ t. s.cost_is t -ℚ row_sum-like t
 
-    reduced-like : column_reduced_cost F y z c j ≡ column_reduced_cost G y z d j
+    pub reduced-like : column_reduced_cost F y z c j ≡ column_reduced_cost G y z d j
     reduced-like = λ t. s.cost_is t -ℚ cut_sum-like t -ℚ row_sum-like t
 
     pub side-like : column_side F path y z c j ≡ column_side G path y z d j
@@ -228,7 +228,7 @@ module _ (M N : Program) (path : Path) (cuts others : List CutRow) (y z c d : �
     term = step-like (column_reduced_cost F y z c) (bound_number F path y z c) (column_reduced_cost G y z d) (bound_number G path y z d) (length M.cols) (length N.cols) column_terms (cuts_total F y z c₀) (cuts_total G y z c₀) cuts_total-like j left right own.term;
   }
 
-  all_columns-like : ColumnsFit F path y z c (cuts_total F y z c₀) (length M.cols) → ColumnsFit G path y z d (cuts_total G y z c₀) (length N.cols)
+  pub all_columns-like : ColumnsFit F path y z c (cuts_total F y z c₀) (length M.cols) → ColumnsFit G path y z d (cuts_total G y z c₀) (length N.cols)
   all_columns-like h j below = elim (q.columns_are j) [
     | inl same ↦ let left = same.there.1 below in column-like j left below (h j left)
     | inr quiet ↦ record {

@@ -77,7 +77,7 @@ module _ (f g : ℕ → LagValue) (n m : ℕ) (like : (k : ℕ) → IsLikeValue 
 
 -- ---- sums of products that are alike
 
-product-none : (a x : ℕ → ℚ) (k : ℕ) → IsNoStep a x k → a k *ℚ x k ≡ int (pos 0)
+pub product-none : (a x : ℕ → ℚ) (k : ℕ) → IsNoStep a x k → a k *ℚ x k ≡ int (pos 0)
 product-none a x k (inl none) = let zeroed : int (pos 0) *ℚ x k ≡ int (pos 0) = ring (x k ∷ []) (search reads_ℚ) tt in ap (λ v. v *ℚ x k) none ∙ zeroed
 product-none a x k (inr none) = let zeroed : a k *ℚ int (pos 0) ≡ int (pos 0) = ring (a k ∷ []) (search reads_ℚ) tt in ap (λ v. a k *ℚ v) none ∙ zeroed
 

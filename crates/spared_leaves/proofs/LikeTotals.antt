@@ -29,7 +29,7 @@ module _ (M N : Program) (path : Path) (cuts others : List CutRow) (y z c d : �
   back : IsLikeQuestion N M path others cuts y z d c
   back = question-back M N path cuts others y z c d q
 
-  there-like : (j : ℕ) → j < length M.cols → column_side (formulation M cuts) path y z c j ≢ None → column_side (formulation N others) path y z d j ≢ None
+  pub there-like : (j : ℕ) → j < length M.cols → column_side (formulation M cuts) path y z c j ≢ None → column_side (formulation N others) path y z d j ≢ None
   there-like j within there = elim (q.columns_are j) [
     | inl same ↦ λ e. there (side-like M N path cuts others y z c d c₀ q j same ∙ e)
     | inr quiet ↦ quiet-there (formulation N others) path y z d j (quiet.1 (omega (arith, more)))

@@ -10,7 +10,7 @@ use Rattle.spared_leaves.specs.declared.touched.Touched.{Touched}
 use Rattle.spared_leaves.specs.Touched.{cost_touched, column_touched, leaves_list}
 use Rattle.spared_leaves.specs.Alike.{AreAlikeBut, AreAlikeCuts}
 use Rattle.spared_leaves.specs.Spared.{IsQuietLag, IsQuietFarkas, HasInEach, KeepsCrossing, IsSpared}
-use Rattle.spared_leaves.proofs.LikeAnswers.{like_answers, like_lag_totals, like_farkas_totals, like_regions}
+use Rattle.spared_leaves.proofs.LikeAnswers.{like_answers, like_lag_totals, like_farkas_totals, like_regions, lag-short, farkas-short}
 
 -- two words that are true together
 pub both-true : (a b : Bool) → (a && b) ≡ true → (a ≡ true) × (b ≡ true)
@@ -27,4 +27,6 @@ module _ (t : Touched) (M N : Program) (cuts others : List CutRow) (path : Path)
     refuting = λ r. (like_answers t M N cuts others alike alike_cuts path farkas left_farkas r).1 quiet;
     lag_totals = λ more. like_lag_totals t M N cuts others alike alike_cuts path mult left lag more;
     farkas_totals = λ more. like_farkas_totals t M N cuts others alike alike_cuts path farkas left_farkas quiet more;
+    lag_short = lag-short t M N cuts others alike alike_cuts path mult left lag;
+    farkas_short = farkas-short t M N cuts others alike alike_cuts path farkas left_farkas quiet;
   }

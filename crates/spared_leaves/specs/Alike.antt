@@ -5,7 +5,7 @@ use Rattle.lp_model.specs.Cuts.{is_live}
 use Rattle.lp_model.specs.Formulations.{cut_coefficient, cut_high}
 use Rattle.lp_model.specs.declared.types.CutRow.{CutRow}
 use Rattle.spared_leaves.specs.declared.touched.Touched.{Touched}
-use Rattle.spared_leaves.specs.Touched.{leaves_row, leaves_cost, leaves_column}
+use Rattle.spared_leaves.specs.Touched.{leaves_row, leaves_entries, leaves_cost, leaves_column}
 
 -- both have a row at the place, with the same sides, or neither has
 pub record IsSameSides (M N : Program) (i : ℕ) : Type 0 where
@@ -33,7 +33,7 @@ pub record AreAlikeBut (t : Touched) (M N : Program) : Type 0 where
   pub cost_is : (j : ℕ) → leaves_cost t j ≡ true → cost M 1 j ≡ cost N 1 j
   pub columns : (j : ℕ) → leaves_column t j ≡ true → IsSameRange M N j
   pub rows : (i : ℕ) → leaves_row t i ≡ true → IsSameSides M N i
-  pub entry : (i j : ℕ) → leaves_row t i ≡ true → leaves_column t j ≡ true → coefficient M i j ≡ coefficient N i j
+  pub entry : (i j : ℕ) → leaves_entries t i ≡ true → leaves_column t j ≡ true → coefficient M i j ≡ coefficient N i j
 
 -- each cut that counts in both lists is the same
 abbrev pub AreAlikeCuts : List CutRow → List CutRow → Type 0

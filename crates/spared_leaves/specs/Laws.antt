@@ -1,12 +1,13 @@
 -- What is alike has the same answers: a list that names nothing that is touched has the same numbers, to the first step without
 -- room, and a region is empty in both models or in neither. And an edit leaves all but what it touches.
-use Rattle.std.specs.Prelude.{◌≡◌, ◌↔◌, ℕ, ◌≤◌, true, false, List, length, map, Some, Result}
+use Rattle.std.specs.Prelude.{◌≡◌, ◌↔◌, ℕ, ◌/◌, ◌<◌, ◌≤◌, ℤ, Bool, true, false, List, length, map, Some, Result}
 use Rattle.frac128.specs.Rational.{ℚ}
 use Rattle.lp_model.specs.Program.{Program}
 use Rattle.lp_model.specs.Regions.{Path, IsEmptyRegion}
 use Rattle.lp_model.specs.Formulations.{formulation}
 use Rattle.lp_model.specs.Edits.{edited}
 use Rattle.lp_model.specs.declared.types.ColId.{ColId}
+use Rattle.lp_model.specs.declared.types.RowId.{RowId}
 use Rattle.lp_model.specs.declared.types.CutRow.{CutRow}
 use Rattle.lp_model.specs.declared.types.Edit.{Edit}
 use Rattle.lp_model.specs.declared.types.WideStep.{WideStep}
@@ -14,10 +15,12 @@ use Rattle.cover_cuts.specs.Cuts.{IsPoolOf}
 use Rattle.leaf_dual.specs.declared.dual.LagValue.{LagValue}
 use Rattle.leaf_dual.specs.Dual.{Multipliers}
 use Rattle.leaf_dual.specs.Answers.{IsDualAnswer, IsLagAnswer, IsFarkasAnswer}
-use Rattle.leaf_totals.specs.Keeping.{list_question}
+use Rattle.leaf_totals.specs.declared.keeping.LeafTotals.{LeafTotals}
+use Rattle.leaf_totals.specs.Keeping.{list_question, HasSideOfRow, IsSumOfShortTerms}
+use Rattle.leaf_totals.specs.Moving.{IsMovedSide}
 use Rattle.leaf_totals.specs.Likeness.{AreLikeTo, question_with}
 use Rattle.spared_leaves.specs.declared.touched.Touched.{Touched}
-use Rattle.spared_leaves.specs.declared.touched.Touched.TheVariants.{OneCost}
+use Rattle.spared_leaves.specs.declared.touched.Touched.TheVariants.{Nothing, RowSides, OneCost}
 use Rattle.spared_leaves.specs.Touched.{touched_by, cost_touched, column_touched, leaves_list}
 use Rattle.spared_leaves.specs.Alike.{AreAlikeBut, AreAlikeCuts}
 use Rattle.spared_leaves.specs.Questions.{IsLikeQuestion}
@@ -61,6 +64,20 @@ LikeCostTotalsLaw =
     (col : ColId) (M N : Program) (cuts others : List CutRow) → AreAlikeBut (OneCost col) M N → AreAlikeCuts cuts others → (path : Path) (mult : Multipliers) → leaves_list (OneCost col) cuts others mult ≡ true
     → col.0 ≤ length M.cols → length M.cols ≤ length N.cols
     → AreLikeTo col.0 (list_question (formulation M cuts) path mult true) (list_question (formulation N others) path mult true)
+
+-- where the sides of one row are touched, and no cut of the list turned, what is asked is asked with another side of that row, if the
+-- list takes one after the edit
+abbrev pub MovedSideLaw : Type 0
+MovedSideLaw =
+    (row : RowId) (M N : Program) (cuts others : List CutRow) → AreAlikeBut (RowSides row) M N → AreAlikeCuts cuts others → length M.rows ≡ length N.rows → length cuts ≡ length others → length M.cols ≡ length N.cols
+    → (path : Path) (mult : Multipliers) (costed : Bool) → leaves_list Nothing cuts others mult ≡ true → row.0 < length M.rows → HasSideOfRow (list_question (formulation N others) path mult costed) row.0
+    → IsMovedSide row.0 (list_question (formulation M cuts) path mult costed) (list_question (formulation N others) path mult costed)
+
+-- a number whose terms are known to be short stays one, where there is no further block of columns
+abbrev pub LikeShortLaw : Type 0
+LikeShortLaw =
+    (M N : Program) (path : Path) (cuts others : List CutRow) (y z c d : ℕ → ℚ) (c₀ : ℚ) → IsLikeQuestion M N path cuts others y z c d → length M.cols ≤ length N.cols → length M.cols / 64 ≡ length N.cols / 64
+    → (t : LeafTotals) (over : ℤ) → IsSumOfShortTerms (question_with (formulation M cuts) path y z c₀ c) t over → IsSumOfShortTerms (question_with (formulation N others) path y z c₀ d) t over
 
 abbrev pub LikeRegionsLaw : Type 0
 LikeRegionsLaw = (t : Touched) (M N : Program) (path : Path) → AreAlikeBut t M N → KeepsCrossing path (column_touched t) M N → IsEmptyRegion M path ↔ IsEmptyRegion N path

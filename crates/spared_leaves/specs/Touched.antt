@@ -16,13 +16,13 @@ use Rattle.lp_model.specs.declared.types.Edit.{Edit}
 use Rattle.lp_model.specs.declared.types.Edit.TheVariants.{SetCost, SetCost2, SetRow, SetColBounds, SetKind, AddCol, AddRow, ReplaceRow}
 use Rattle.leaf_dual.specs.Dual.{Multipliers}
 use Rattle.spared_leaves.specs.declared.touched.Touched.{Touched}
-use Rattle.spared_leaves.specs.declared.touched.Touched.TheVariants.{Nothing, OneRow, OneCost, OneColumn}
+use Rattle.spared_leaves.specs.declared.touched.Touched.TheVariants.{Nothing, OneRow, RowSides, OneCost, OneColumn}
 
--- nothing that a number is made of, one row, the cost of one column, or one column; None where the places of others move
+-- nothing that a number is made of, one row, the sides of one row, the cost of one column, or one column; None where the places of others move
 abbrev pub touched_by : Program → Edit → Option Touched
 touched_by M (SetCost col v) = Some (OneCost (record { 0 = col_place M col }))
 touched_by M (SetCost2 col v) = Some Nothing
-touched_by M (SetRow row lo hi) = Some (OneRow (record { 0 = row_place M row }))
+touched_by M (SetRow row lo hi) = Some (RowSides (record { 0 = row_place M row }))
 touched_by M (SetColBounds col lo up) = Some (OneColumn (record { 0 = col_place M col }))
 touched_by M (SetKind col integer) = Some (OneColumn (record { 0 = col_place M col }))
 touched_by M (AddCol name integer lo up cost cost2 named) = Some (OneColumn (record { 0 = length M.cols }))
@@ -34,7 +34,13 @@ touched_by M e = None
 
 abbrev pub leaves_row : Touched → ℕ → Bool
 leaves_row (OneRow row) i = not (nat_eq row.0 i)
+leaves_row (RowSides row) i = not (nat_eq row.0 i)
 leaves_row t i = true
+
+-- no coefficient of row i is, but for one in a column that is touched
+abbrev pub leaves_entries : Touched → ℕ → Bool
+leaves_entries (OneRow row) i = not (nat_eq row.0 i)
+leaves_entries t i = true
 
 -- the column whose cost is touched, and the one of which more is
 abbrev pub cost_touched : Touched → Option ColId

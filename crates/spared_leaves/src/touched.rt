@@ -3,7 +3,7 @@ ghost use Rattle.std.specs.Prelude.{◌≡◌};
 ghost use Rattle.lp_model.specs.Cuts.{is_live};
 ghost use Rattle.lp_model.specs.Edits.{EditFits};
 ghost use Rattle.spared_leaves.specs.Touched.{touched_by, cost_touched, column_touched, leaves_row, leaves_cut, leaves_variable, leaves_list};
-ghost use Rattle.spared_leaves.specs.Laws.{LikeQuestionsLaw, LikeAnswersLaw, LikeRegionsLaw, LikeEditsLaw, LikePoolsLaw, LikeLagTotalsLaw, LikeFarkasTotalsLaw, LikeCostTotalsLaw};
+ghost use Rattle.spared_leaves.specs.Laws.{LikeQuestionsLaw, LikeAnswersLaw, LikeRegionsLaw, LikeEditsLaw, LikePoolsLaw, LikeLagTotalsLaw, LikeFarkasTotalsLaw, LikeCostTotalsLaw, MovedSideLaw, LikeShortLaw};
 
 use branch_tree::{col_of, row_of};
 use frac128::Frac;
@@ -15,6 +15,8 @@ pub enum Touched {
     Nothing,
     /// A row's sides and its coefficients.
     OneRow(RowId),
+    /// A row's sides.
+    RowSides(RowId),
     /// A column's cost in objective 1.
     OneCost(ColId),
     /// All of a column.
@@ -32,7 +34,7 @@ pub fn touched_by(model: &Model, edit: &Edit) -> Option<Touched>
         Edit::SetColBounds { col, .. } => Some(Touched::OneColumn(ColId(col_of(model, col)))),
         Edit::SetKind { col, .. } => Some(Touched::OneColumn(ColId(col_of(model, col)))),
         Edit::AddCol { .. } => Some(Touched::OneColumn(ColId(model.cols().len() as u32))),
-        Edit::SetRow { row, .. } => Some(Touched::OneRow(RowId(row_of(model, row)))),
+        Edit::SetRow { row, .. } => Some(Touched::RowSides(RowId(row_of(model, row)))),
         Edit::AddRow { .. } => Some(Touched::OneRow(RowId(model.rows().len() as u32))),
         Edit::ReplaceRow { row, .. } => Some(Touched::OneRow(RowId(row_of(model, row)))),
         Edit::DelCol { .. } => None,
@@ -78,6 +80,7 @@ fn leaves_row(touched: &Touched, row: u32) -> bool
 {
     match touched {
         Touched::OneRow(id) => id.0 != row,
+        Touched::RowSides(id) => id.0 != row,
         _ => true,
     }
 }
@@ -160,4 +163,14 @@ pub fn like_farkas_totals_law()
 /// Where the cost of one column is touched, what is kept before that column stands.
 pub fn like_cost_totals_law()
     ensures { LikeCostTotalsLaw }
+{}
+
+/// Where the sides of one row are touched, what a list without a cut that turned asks is asked with another side of that row.
+pub fn moved_side_law()
+    ensures { MovedSideLaw }
+{}
+
+/// Terms that are short stay so where they are alike.
+pub fn like_short_law()
+    ensures { LikeShortLaw }
 {}

@@ -1,5 +1,5 @@
 -- How many terms an edit that leaves the nodes adds, kind by kind: the sum over the leaves.
-use Rattle.std.specs.Prelude.{◌≡◌, ℕ, ◌+◌, ◌-◌, ◌*◌, ◌≤◌, true, List, [], ◌∷◌, length, Some}
+use Rattle.std.specs.Prelude.{◌≡◌, ℕ, ◌+◌, ◌-◌, ◌*◌, ◌≤◌, true, ◌&&◌, if◌then◌else◌, List, [], ◌∷◌, length, Some}
 use Rattle.std.proofs.Common.{refl, sym, ap, subst, ◌∙◌, arith}
 use Rattle.std.proofs.Math.Nat.{zero-mul, suc-mul, mul-zero}
 use Rattle.lp_model.specs.Program.{Program}
@@ -8,6 +8,9 @@ use Rattle.lp_model.specs.Formulations.{Formulation}
 use Rattle.lp_model.specs.Cuts.{is_live}
 use Rattle.lp_model.specs.declared.types.Col.{Col}
 use Rattle.lp_model.specs.declared.types.CutRow.{CutRow}
+use Rattle.lp_model.specs.declared.types.RowId.{RowId}
+use Rattle.lp_model.specs.declared.types.Var.{Var}
+use Rattle.lp_model.specs.declared.types.Var.TheVariants as variable
 use Rattle.lp_model.specs.declared.types.Edit.{Edit}
 use Rattle.lp_model.specs.declared.types.Edit.TheVariants.{SetCost, SetCost2, SetRow, SetColBounds, SetKind, AddCol, DelCol, AddRow, DelRow, ReplaceRow}
 use Rattle.lp_model.proofs.ChangedLaws.{length-changed_at}
@@ -17,13 +20,13 @@ use Rattle.cover_cuts.specs.Cuts.{IsPoolOf}
 use Rattle.kept_cuts.specs.Kept.{derivations_of}
 use Rattle.leaf_dual.specs.Dual.{Multipliers}
 use Rattle.spared_leaves.specs.declared.touched.Touched.{Touched}
-use Rattle.spared_leaves.specs.declared.touched.Touched.TheVariants.{Nothing, OneRow, OneCost}
-use Rattle.spared_leaves.specs.Touched.{leaves_row, leaves_list}
+use Rattle.spared_leaves.specs.declared.touched.Touched.TheVariants.{Nothing, OneRow, RowSides, OneCost}
+use Rattle.spared_leaves.specs.Touched.{leaves_row, leaves_variable, leaves_list}
 use Rattle.leaf_judging.specs.Totals.{touched_steps, leaf_steps, leaves_steps}
 use Rattle.leaf_judging.proofs.JudgeLemmas.{length-placed}
 use Rattle.sound_searches.specs.Sound.{PlainSearch, formulation_of}
 use Rattle.sound_searches.specs.Edited.{Follows}
-use Rattle.tree_edit.specs.Counted.{sides_steps, SecondCostTakes, CostTakes, SidesTake}
+use Rattle.tree_edit.specs.Counted.{all_terms, sides_steps, SecondCostTakes, CostTakes, SidesTake}
 use Rattle.tree_edit.specs.private.Staying.{leaves_nodes, IsStayCounted}
 use Rattle.tree_edit.proofs.FormerNumbers.{leaves-cuts, derivations-left}
 use Rattle.tree_edit.proofs.TurnedCuts.{list-left, cost-lives, second-lives}
@@ -37,10 +40,22 @@ module _ (t : Touched) (cuts : List CutRow) (F : Formulation) (left : (mult : Mu
   leaves-left [] = sym (zero-mul (touched_steps F t))
   leaves-left (l ∷ ls) = let rest = leaves-left ls in let one = leaf-left l in let more = suc-mul (length ls) (touched_steps F t) in omega (arith, rest, one, more)
 
+-- a list that names no side of a row names nothing of it
+side-variable : (row : RowId) (cuts others : List CutRow) (v : Var) → leaves_variable (RowSides row) cuts others v ≡ leaves_variable (OneRow row) cuts others v
+side-variable row cuts others (variable.Col col) = refl
+side-variable row cuts others (variable.Row named) = refl
+side-variable row cuts others (variable.Cut cut) = refl
+
+side-list : (row : RowId) (cuts others : List CutRow) (mult : Multipliers) → leaves_list (RowSides row) cuts others mult ≡ leaves_list (OneRow row) cuts others mult
+side-list row cuts others [] = refl
+side-list row cuts others (m ∷ ms) = λ i. side-variable row cuts others m.0 i && side-list row cuts others ms i
+
 -- an edit of a row's sides
-sides-sum : (S new : PlainSearch) (row : ℕ) (ls : List RegionLeaf) → leaves_steps (Some (OneRow (record { 0 = row }))) S.cuts (formulation_of new) ls ≡ sides_steps S row new ls
+sides-sum : (S new : PlainSearch) (row : ℕ) (ls : List RegionLeaf) → leaves_steps (Some (RowSides (record { 0 = row }))) S.cuts (formulation_of new) ls ≡ sides_steps S row new ls
 sides-sum S new row [] = refl
-sides-sum S new row (l ∷ ls) = ap (λ n. leaf_steps (Some (OneRow (record { 0 = row }))) S.cuts (formulation_of new) l.kept + n) (sides-sum S new row ls)
+sides-sum S new row (l ∷ ls) =
+    let one = side-list (record { 0 = row }) S.cuts new.cuts in
+    λ i. (if one l.kept.mult i && one l.kept.farkas i then 0 else 2 * all_terms new) + sides-sum S new row ls i
 
 module _ (S : PlainSearch) (e : Edit) (new : PlainSearch) (taken : ℕ) (follows : Follows S e new) where
   -- the cuts are those that there were

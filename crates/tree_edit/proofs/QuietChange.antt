@@ -22,7 +22,7 @@ use Rattle.branch_tree.specs.Plain.{LeafKept, Plain}
 use Rattle.branch_tree.specs.declared.node.LeafState.{LeafState}
 use Rattle.branch_tree.specs.declared.node.LeafState.TheVariants.{IsOpen, IsClosed}
 use Rattle.spared_leaves.specs.declared.touched.Touched.{Touched}
-use Rattle.spared_leaves.specs.declared.touched.Touched.TheVariants.{Nothing, OneRow, OneCost, OneColumn}
+use Rattle.spared_leaves.specs.declared.touched.Touched.TheVariants.{Nothing, OneRow, RowSides, OneCost, OneColumn}
 use Rattle.spared_leaves.specs.Touched.{touched_by, leaves_row, leaves_cost, leaves_column, leaves_variable, leaves_list}
 use Rattle.spared_leaves.specs.Alike.{AreAlikeBut, AreAlikeCuts}
 use Rattle.spared_leaves.specs.Spared.{IsSpared}
@@ -214,6 +214,7 @@ module _ (M N : Program) (e : Edit) (old new : List CutRow) (left : LeavesCuts M
       by None is none = absurd none
       by (Some Nothing) is none = (Nothing, record { model = alike Nothing is; cuts = alike-cuts; costs = λ j. refl; columns = λ j. refl; rows = λ i below. refl; lives = λ k below. lives k })
       by (Some (OneRow row)) is none = (OneRow row, record { model = alike (OneRow row) is; cuts = alike-cuts; costs = λ j. refl; columns = λ j. refl; rows = λ i below. past row.0 i none below; lives = λ k below. lives k })
+      by (Some (RowSides row)) is none = absurd none
       by (Some (OneCost col)) is none = absurd none
       by (Some (OneColumn col)) is none = absurd none
 

@@ -1,8 +1,8 @@
--- How many terms an edit adds to the totals that are kept of leaves. Places count from 0.
+-- How many terms an edit adds to the totals that are kept of leaves, all leaves together: each bound is a sum over the leaves. Places count from 0.
 --     SecondCostTakes e taken        an edit of a second cost adds none
 --     CostTakes S e taken            one of the cost of the column at place j of n adds at most n - j + 63 times the number of leaves
---     SidesTake S e new taken        one of a row's sides adds none in a leaf neither list of which names the row, nor a cut that began or
---                                    ceased to count; and in another one at most all terms of both lists
+--     SidesTake S e new taken        one of a row's sides adds at most all terms of both lists for each leaf a list of which names the row, or a cut
+--                                    that began or ceased to count, and nothing for another leaf
 use Rattle.std.specs.Prelude.{◌≡◌, ◌≤◌, ◌+◌, ◌-◌, ◌*◌, ℕ, Bool, ◌&&◌, if◌then◌else◌, List, [], ◌∷◌, length}
 use Rattle.lp_model.specs.Edits.{col_place, row_place}
 use Rattle.lp_model.specs.declared.types.Edit.{Edit}

@@ -61,6 +61,7 @@ fn touches_no_list(touched: &Option<Touched>, model: &Model) -> bool
         Some(touched) => match touched {
             Touched::Nothing => true,
             Touched::OneRow(row) => row.0 as usize >= model.rows().len(),
+            Touched::RowSides(_) => false,
             Touched::OneCost(_) => false,
             Touched::OneColumn(_) => false,
         },

@@ -1,11 +1,15 @@
 -- What contracts of private functions alone cite, beside specs/Totals: parts of an entry.
-use Rattle.std.specs.Prelude.{◌≡◌, ◌≢◌, false, true, [], ◌∷◌, Ok, Err}
+use Rattle.std.specs.Prelude.{◌≡◌, ◌≢◌, ℕ, false, true, List, [], ◌∷◌, Ok, Err}
 use Rattle.lp_model.specs.Regions.{Path}
-use Rattle.lp_model.specs.Formulations.{Formulation}
+use Rattle.lp_model.specs.Formulations.{Formulation, formulation}
+use Rattle.lp_model.specs.Program.{Program}
+use Rattle.lp_model.specs.declared.types.CutRow.{CutRow}
 use Rattle.leaf_dual.specs.Dual.{Multipliers}
 use Rattle.leaf_dual.specs.Answers.{IsLagAnswer}
+use Rattle.leaf_dual.specs.ShortTerms.{AreFewTerms}
 use Rattle.leaf_totals.specs.declared.keeping.LeafTotals.{LeafTotals}
-use Rattle.leaf_totals.specs.Keeping.{list_question, AreComplete, AreCutTo}
+use Rattle.leaf_totals.specs.Keeping.{list_question, HasSideOfRow, AreTrueTotals, AreComplete, AreCutTo}
+use Rattle.leaf_totals.specs.Moving.{IsMovedSide}
 use Rattle.leaf_judging.specs.declared.closing.LeafNumber.{LeafNumber}
 use Rattle.leaf_judging.specs.declared.closing.LeafNumber.TheVariants.{Empty, Lag, Wide}
 use Rattle.leaf_judging.specs.declared.entry.LeafEntry.{LeafEntry}
@@ -38,6 +42,19 @@ pub record StaysEmpty (old new : LeafEntry) : Type 0 where
   pub number : new.number ≡ Empty
   pub lag : AreCutTo 0 old.lag new.lag
   pub farkas : new.farkas ≡ old.farkas
+
+-- the totals of the multipliers and their number, where the side of row i that they take is another one, with whatever cuts, in whatever region
+abbrev pub MovesLag : ℕ → Program → Program → Multipliers → LeafEntry → LeafEntry → Type 0
+MovesLag i M N mult old new =
+    (cuts others : List CutRow) (path : Path) → (HasSideOfRow (list_question (formulation N others) path mult true) i → IsMovedSide i (list_question (formulation M cuts) path mult true) (list_question (formulation N others) path mult true))
+    → AreFewTerms (formulation N others) → AreTrueTotals (list_question (formulation M cuts) path mult true) old.lag
+    → IsLagNumber (formulation N others) path mult new.number × (AreTrueTotals (list_question (formulation N others) path mult true) new.lag × AreComplete (list_question (formulation N others) path mult true) new.lag)
+
+pub record MovesSide (i : ℕ) (M N : Program) (mult : Multipliers) (old new : LeafEntry) : Type 0 where
+  pub empty : old.number ≡ Empty → StaysEmpty old new
+  pub other : old.number ≢ Empty → MovesLag i M N mult old new
+  pub farkas : new.farkas ≡ old.farkas
+  pub room : new.lag.totals.room ≡ old.lag.totals.room
 
 pub record GoesOnFrom (F : Formulation) (path : Path) (mult : Multipliers) (old new : LeafEntry) : Type 0 where
   pub empty : old.number ≡ Empty → StaysEmpty old new

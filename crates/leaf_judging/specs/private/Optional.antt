@@ -6,5 +6,5 @@ use Rattle.leaf_totals.specs.declared.keeping.LeafTotals.{LeafTotals}
 
 -- the totals that are held; where none are, there is no room for any
 abbrev pub totals_held : Option (Box LeafTotals Global) → LeafTotals
-totals_held None = record { totals = record { total = int (pos 0); kept = []; room = 0 }; ending = None }
+totals_held None = record { totals = record { total = int (pos 0); kept = []; room = 0 }; ending = None; over = None }
 totals_held (Some held) = held.value

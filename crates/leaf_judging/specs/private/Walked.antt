@@ -8,7 +8,7 @@ use Rattle.branch_tree.specs.Plain.{LeafKept, Plain}
 use Rattle.branch_tree.specs.declared.node.LeafData.{LeafData}
 use Rattle.branch_tree.specs.declared.node.RegionLeaf.{RegionLeaf}
 use Rattle.spared_leaves.specs.declared.touched.Touched.{Touched}
-use Rattle.spared_leaves.specs.declared.touched.Touched.TheVariants.{Nothing, OneRow, OneCost, OneColumn}
+use Rattle.spared_leaves.specs.declared.touched.Touched.TheVariants.{Nothing, OneRow, RowSides, OneCost, OneColumn}
 use Rattle.leaf_judging.specs.declared.entry.LeafEntry.{LeafEntry}
 use Rattle.leaf_judging.specs.declared.former.Former.{Former}
 use Rattle.leaf_judging.specs.declared.former.Way.{Way}
@@ -104,6 +104,7 @@ abbrev pub IsNoCost : Option Touched → Type 0
 IsNoCost None = Unit {0}
 IsNoCost (Some Nothing) = Unit {0}
 IsNoCost (Some (OneRow row)) = Unit {0}
+IsNoCost (Some (RowSides row)) = Unit {0}
 IsNoCost (Some (OneCost col)) = ⊥
 IsNoCost (Some (OneColumn col)) = Unit {0}
 

@@ -11,7 +11,7 @@ use Rattle.cover_cuts.specs.Cuts.{IsPoolOf}
 use Rattle.branch_tree.specs.Plain.{Plain}
 use Rattle.branch_tree.specs.Leaves.{region_leaves, with_states}
 use Rattle.spared_leaves.specs.declared.touched.Touched.{Touched}
-use Rattle.spared_leaves.specs.declared.touched.Touched.TheVariants.{Nothing, OneRow, OneCost, OneColumn}
+use Rattle.spared_leaves.specs.declared.touched.Touched.TheVariants.{Nothing, OneRow, RowSides, OneCost, OneColumn}
 use Rattle.spared_leaves.specs.Touched.{touched_by}
 use Rattle.leaf_judging.specs.declared.numbers.LeafNumbers.{LeafNumbers}
 use Rattle.leaf_judging.specs.declared.queue.LeafQueue.{LeafQueue}
@@ -36,6 +36,7 @@ abbrev pub TouchesNoList : Program → Option Touched → Type 0
 TouchesNoList M None = ⊥
 TouchesNoList M (Some Nothing) = Unit {0}
 TouchesNoList M (Some (OneRow row)) = length M.rows ≤ row.0
+TouchesNoList M (Some (RowSides row)) = ⊥
 TouchesNoList M (Some (OneCost col)) = ⊥
 TouchesNoList M (Some (OneColumn col)) = ⊥
 

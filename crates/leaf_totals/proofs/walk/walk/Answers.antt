@@ -82,3 +82,63 @@ returns-clause-steps g c =
     let some : 2 ≤ length c.back_to.new.self.kept = omega (arith, e, f, n, same) in
     let left = sym (behind_columns q (length c.back_to.new.self.kept) some) ∙ ap (terms_behind q) same in
     subst (λ m. c.add_columns.new.steps ≤ c.args.steps.now + m) left c.add_columns.ensures.steps
+
+pub from_rows-requires-clause-whole : goal.from_rows-requires-clause-whole
+from_rows-requires-clause-whole g c = c.requires.whole
+
+pub from_rows-requires-clause-narrow : goal.from_rows-requires-clause-narrow
+from_rows-requires-clause-narrow g c = c.requires.narrow
+
+pub from_rows-requires-clause-places : goal.from_rows-requires-clause-places
+from_rows-requires-clause-places g c = c.requires.places
+
+pub from_rows-requires-clause-room : goal.from_rows-requires-clause-room
+from_rows-requires-clause-room g c = c.requires.room
+
+pub returns-then-count-eq0-clause-walk : goal.returns-then-count-eq0-clause-walk
+returns-then-count-eq0-clause-walk g c = c.from_rows.ensures.walk
+
+pub returns-then-count-eq0-clause-kept : goal.returns-then-count-eq0-clause-kept
+returns-then-count-eq0-clause-kept g c = c.from_rows.ensures.kept
+
+pub returns-then-count-eq0-clause-room : goal.returns-then-count-eq0-clause-room
+returns-then-count-eq0-clause-room g c = c.from_rows.ensures.room
+
+pub returns-then-count-eq0-clause-rises : goal.returns-then-count-eq0-clause-rises
+returns-then-count-eq0-clause-rises g c = c.from_rows.ensures.rises
+
+pub returns-then-count-eq1-clause-walk : goal.returns-then-count-eq1-clause-walk
+returns-then-count-eq1-clause-walk g c = c.from_cuts.ensures.walk
+
+pub returns-then-count-eq1-clause-kept : goal.returns-then-count-eq1-clause-kept
+returns-then-count-eq1-clause-kept g c = c.from_cuts.ensures.kept
+
+pub returns-then-count-eq1-clause-rises : goal.returns-then-count-eq1-clause-rises
+returns-then-count-eq1-clause-rises g c = c.from_cuts.ensures.rises
+
+pub returns-clause-walk : goal.returns-clause-walk
+returns-clause-walk g c = c.add_columns.ensures.walk
+
+pub returns-clause-kept : goal.returns-clause-kept
+returns-clause-kept g c = c.add_columns.ensures.kept
+
+pub returns-clause-rises : goal.returns-clause-rises
+returns-clause-rises g c = c.add_columns.ensures.rises
+
+pub from_cuts-requires-clause-whole : goal.from_cuts-requires-clause-whole
+from_cuts-requires-clause-whole g c = c.requires.whole
+
+pub from_cuts-requires-clause-narrow : goal.from_cuts-requires-clause-narrow
+from_cuts-requires-clause-narrow g c = c.requires.narrow
+
+pub from_cuts-requires-clause-places : goal.from_cuts-requires-clause-places
+from_cuts-requires-clause-places g c = c.requires.places
+
+pub add_columns-requires-clause-whole : goal.add_columns-requires-clause-whole
+add_columns-requires-clause-whole g c = c.requires.whole
+
+pub add_columns-requires-clause-narrow : goal.add_columns-requires-clause-narrow
+add_columns-requires-clause-narrow g c = c.requires.narrow
+
+pub add_columns-requires-clause-places : goal.add_columns-requires-clause-places
+add_columns-requires-clause-places g c = c.requires.places

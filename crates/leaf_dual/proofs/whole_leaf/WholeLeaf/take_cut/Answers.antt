@@ -1,5 +1,6 @@
-use Rattle.std.proofs.Common.{◌≡◌, ◌∙◌, ◌<◌, ◌≤◌, ◌+◌, ◌∷◌, ◌++◌, [], ap, sym, subst, refl, take, to_z, of_z, w64}
+use Rattle.std.proofs.Common.{◌≡◌, ◌∙◌, ◌<◌, ◌≤◌, ◌+◌, ◌∷◌, ◌++◌, [], ap, sym, subst, refl, take, to_z, of_z, w64, arith}
 use Rattle.std.specs.Prelude.{List}
+use Rattle.std.proofs.lemmas.Bool.{false≢true}
 use Rattle.std.proofs.lemmas.List.{take_more, take_all}
 use Rattle.frac128.specs.Rational.{ℚ, neg_ℚ}
 use Rattle.frac128.specs.LowestTerms.{quotient_of}
@@ -8,7 +9,7 @@ use Rattle.lp_model.specs.declared.types.ColId.{ColId}
 use Rattle.leaf_dual.specs.Parts.{cut_weights}
 use Rattle.leaf_dual.specs.private.CostsLeft.{IsProductTaken, AreTaken}
 use Rattle.whole_sums.specs.Wholes.{IsShort, whole_number_at}
-use Rattle.whole_sums.proofs.ReadLemmas.{short_read}
+use Rattle.whole_sums.proofs.ReadLemmas.{short_read, short_again}
 use Rattle.leaf_dual.proofs.CutLemmas.{coefficient-is}
 use Rattle.leaf_dual.proofs.CostsLeft.{AreBefore, none_taken, before_more, taken_more}
 use Rattle.leaf_dual.proofs.whole_leaf.WholeLeaf.take_cut.Goals as goal
@@ -60,3 +61,20 @@ returns c = λ _ j below.
     let all : take c.loop-name.name-index items ≡ cut.terms = take_all c.loop-name.name-index items c.loop-name-test.false ∙ c.as_slice-name-items.ensures ∙ ap (λ r. r.terms) (sym c.index-self-cut.is) in
     subst (λ x. IsProductTaken W.denominator (neg_ℚ (cut_weights W.leaf c.args.cut)) x (whole_number_at c.args.lefts.now j) (whole_number_at c.loop-name.lefts j))
     (ap (term_of j) all ∙ sym (coefficient-is cuts c.args.cut cut c.requires.within c.index-self-cut.is j)) (c.loop-name.invariant.taken j below)
+
+pub returns-in_default : goal.returns-in_default
+returns-in_default c = λ t. absurd (false≢true t)
+
+pub returns-then-col-next : goal.returns-then-col-next
+returns-then-col-next c = λ t. absurd (false≢true t)
+
+pub returns-then-not-take_product : goal.returns-then-not-take_product
+returns-then-not-take_product c = λ t. absurd (false≢true t)
+
+pub take_product-requires-clause-weight : goal.take_product-requires-clause-weight
+take_product-requires-clause-weight c =
+    let over = c.requires.whole.cuts c.args.cut c.in-Some.ensures.within in
+    short_again c.in-Some.weight (subst IsShort (sym c.in-Some.ensures.value) over.0)
+
+pub take_product-requires-clause-within : goal.take_product-requires-clause-within
+take_product-requires-clause-within c = let same = c.loop-name.auto.lefts in let places = c.requires.places in omega (arith, same, places)

@@ -5,13 +5,16 @@ use Rattle.spared_leaves.specs.Touched.{cost_touched, column_touched, leaves_lis
 use Rattle.spared_leaves.specs.Alike.{AreAlikeBut}
 use Rattle.spared_leaves.specs.Spared.{IsAbsent}
 use Rattle.spared_leaves.proofs.SparedLeaf.{both-true}
-use Rattle.leaf_judging.proofs.WayLemmas.{all-moved, absent-cost}
+use Rattle.leaf_judging.proofs.WayLemmas.{all-moved, named-way, absent-cost}
 use Rattle.leaf_judging.proofs.former.Former.way_by.Goals as goal
 
 pub returns-then-spares : goal.returns-then-spares
 returns-then-spares c = λ alike.
     let F : Formulation = formulation c.args.model.now c.args.pool.now in
     all-moved c.args.touched.now c.args.self.now F c.args.kept.now (λ keeps. true≢false (sym (c.keeps_blocks.ensures.1 keeps) ∙ c.if-keeps_blocks.false)) alike.model
+
+pub returns-then-not-leaves_lists : goal.returns-then-not-leaves_lists
+returns-then-not-leaves_lists c = named-way c.args.touched.now c.args.self.now (formulation c.args.model.now c.args.pool.now) c.args.region.now c.args.kept.now c.named_way.result c.named_way.ensures
 
 pub returns-else-has_column : goal.returns-else-has_column
 returns-else-has_column c = λ alike.
