@@ -9,6 +9,7 @@ pub mod PricedLemmas
 pub mod SideLemmas
 pub mod PartLemmas
 pub mod ExchangeLemmas
+pub mod FollowLemmas
 pub mod SignLemmas
 pub mod SlackLemmas
 pub mod ListLemmas

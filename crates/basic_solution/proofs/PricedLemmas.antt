@@ -9,13 +9,13 @@ use Rattle.frac128.specs.LowestTerms.{quotient_of}
 use Rattle.checked_sum.specs.Steps.{partial}
 use Rattle.checked_sum.proofs.SumLaws.{sum_below-same}
 use Rattle.table_entries.specs.WholeSteps.{IsShort, whole_number_at}
-use Rattle.whole_sums.proofs.SumLemmas.{term_of_number}
-use Rattle.basic_solution.specs.Held.{Held, IsSided, relaxation, table, variables}
+use Rattle.basic_solution.specs.Held.{Held, IsSided, table, variables}
+use Rattle.basic_solution.specs.Numbers.{CostsFit}
 use Rattle.basic_solution.specs.RowTotals.{IsSmallNumber, HasSmallTerm, IsCostTotal}
 use Rattle.basic_solution.specs.Priced.{ArePricedTo, row_cost}
 use Rattle.basic_solution.proofs.PointLemmas.{without_cost}
 use Rattle.basic_solution.proofs.ReadLemmas.{none_small}
-use Rattle.basic_solution.proofs.RowTotalLemmas.{place_cost, total_of_rows}
+use Rattle.basic_solution.proofs.RowTotalLemmas.{place_cost, costs_fit, total_of_rows}
 
 -- ---- one row more
 
@@ -111,6 +111,9 @@ module _ (s : Held) (sided : IsSided s) (few : variables s < 2 ^ 32) (place : �
       (λ none. (pos 0, (pos 0, (without_cost (row_cost s i) ((table s).entry i place) d h none, none_small))))
       (λ found. subst (λ k. HasSmallTerm d (row_cost s k) ((table s).entry k place)) found.1.1 (terms found.0 found.1.0))
       (priced.others i q)
+
+  pub priced_fit : CostsFit s place (variables s)
+  priced_fit = costs_fit s sided few place d h d_short start start_small own all_terms
 
   pub total_of_priced : (total : ℤ) → unsigned_abs total ≤ (n + 1) * 2 ^ 93
       → quotient_of total d ≡ partial (place_cost s place) (λ j. row_cost s (get_or rows j 0)) (λ j. (table s).entry (get_or rows j 0) place) n → IsCostTotal s place d total

@@ -24,6 +24,7 @@ use Rattle.whole_sums.specs.Wholes.{IsWholeTerm, HasMargin}
 use Rattle.whole_sums.proofs.SumLemmas.{term_of_nothing, start_is, total_more, fits_more_over}
 use Rattle.basic_solution.specs.Held.{Held, IsSided, relaxation, state, table, variables}
 use Rattle.basic_solution.specs.RowTotals.{IsSmallNumber, HasSmallTerm, AreFreeFrom, IsCostTotal}
+use Rattle.basic_solution.specs.Numbers.{ValueFits, CostsFit}
 use Rattle.basic_solution.specs.private.RowTotals.{IsRowTotal}
 use Rattle.basic_solution.proofs.PointLemmas.{no_standing, own_standing, own_entry, no_saved, own_saved, sum_of_rows}
 
@@ -99,10 +100,14 @@ module _ (s : Held) (sided : IsSided s) (few : variables s < 2 ^ 32) (row : ℕ)
       (λ found. subst₂ (HasSmallTerm d) (sym (own_entry s sided row v found.0 found.1 (sym found.2))) (sym (own_standing s sided v found.0 found.1 (sym found.2))) (terms found.0 found.1))
       (covered (relaxation s) (table s) sided.table.arranged v q)
 
+  -- the sizes alone give room
+  pub value_fits : ValueFits s row (variables s)
+  value_fits = all_fit (pos 0) (omega arith) (at_nonbasic (relaxation s) (table s) ((table s).entry row)) (at_nonbasic (relaxation s) (table s) (state s).at) d h d_short (variables s) few by_variable
+
   pub total_of_row : (total : ℤ) → unsigned_abs total ≤ s.tableau.columns * 2 ^ 93 → quotient_of total d ≡ partial (int (pos 0)) ((table s).entry row) (state s).at s.tableau.columns → IsRowTotal s row d total
   total_of_row total size value = record {
     margin = margin_of total s.tableau.columns (omega (arith, few)) size;
-    fits = all_fit (pos 0) (omega arith) (at_nonbasic (relaxation s) (table s) ((table s).entry row)) (at_nonbasic (relaxation s) (table s) (state s).at) d h d_short (variables s) few by_variable;
+    fits = value_fits;
     value = value ∙ zero-+ℚ (basic_value (relaxation s) (state s) row);
   }
 
@@ -160,11 +165,14 @@ module _ (s : Held) (sided : IsSided s) (few : variables s < 2 ^ 32) (place : �
       (λ found. no_term _ _ d h (no_saved s sided place v found.0 found.1 (sym found.2)))
       (covered (relaxation s) (table s) sided.table.arranged v q)
 
+  -- the sizes alone give room
+  pub costs_fit : CostsFit s place (variables s)
+  costs_fit = subst (λ z. AllFit z (relaxation s).cost (saved s place) (variables s)) (sym own) (all_fit start start_small (relaxation s).cost (saved s place) d h d_short (variables s) few cost_by_variable)
+
   pub total_of_rows : (total : ℤ) → unsigned_abs total ≤ (s.tableau.activities + 1) * 2 ^ 93 → quotient_of total d ≡ partial (place_cost s place) (basic_cost s) (λ i. (table s).entry i place) s.tableau.activities → IsCostTotal s place d total
   total_of_rows total size value = record {
     margin = margin_of total (s.tableau.activities + 1) (omega (arith, few)) size;
-    fits = subst (λ z. AllFit z (relaxation s).cost (saved s place) (variables s)) (sym own)
-        (all_fit start start_small (relaxation s).cost (saved s place) d h d_short (variables s) few cost_by_variable);
+    fits = costs_fit;
     value = value;
   }
 

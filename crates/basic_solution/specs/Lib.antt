@@ -6,6 +6,8 @@ pub mod RowTotals
 pub mod CutTotals
 pub mod Standing
 pub mod Priced
+pub mod KeptCosts
+pub mod KeptValues
 pub mod Exchanges
 pub mod Slack
 pub mod Lists

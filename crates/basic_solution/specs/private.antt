@@ -1,5 +1,6 @@
 -- What contracts of private functions alone cite: no caller has to read it.
 pub mod CutTotals
+pub mod Followed
 pub mod ListedStates
 pub mod Lists
 pub mod Numbers

@@ -26,6 +26,9 @@ mod breach;
 mod costs;
 mod cut_totals;
 mod exchange;
+mod followed;
+mod kept_costs;
+mod kept_values;
 mod listed;
 mod listed_values;
 mod lists;
@@ -42,6 +45,8 @@ mod standing;
 mod total_sides;
 mod written;
 
+pub use followed::is_short;
+pub use kept_values::are_all_small;
 pub use priced_rows::PricedRows;
 pub use sided::SidedBasis;
 pub use sides::signed;

@@ -3,6 +3,7 @@ ghost use Rattle.std.specs.Prelude.{◌<◌, ◌<ℤ◌, pos, IfSome};
 ghost use Rattle.table_entries.specs.WholeSteps.{IsShort};
 ghost use Rattle.basic_solution.specs.RowTotals.{IsCostTotal};
 ghost use Rattle.basic_solution.specs.Priced.{ArePriced};
+ghost use Rattle.basic_solution.specs.KeptCosts.{AreKeptCosts};
 
 use crate::row_totals::with_product;
 use crate::sided::SidedBasis;
@@ -10,12 +11,14 @@ use table_entries::flat_index;
 use whole_sums::product;
 
 /// The rows whose basic variable has a cost, beside them these costs, and how many there are, where that is known
-/// (`SidedBasis::write_priced`).
+/// (`SidedBasis::write_priced`); and the reduced costs that are kept, with their denominator.
 #[derive(Clone, Copy, Drop)]
 pub struct PricedRows<'a> {
     pub rows: &'a [usize],
     pub numbers: &'a [i64],
     pub count: Option<usize>,
+    pub kept: &'a [i64],
+    pub kept_over: i64,
 }
 
 impl SidedBasis<'_> {
@@ -51,7 +54,7 @@ impl SidedBasis<'_> {
 
     /// The reduced cost of a place times the denominator, by the rows whose basic variable has a cost, where the entries are numbers
     /// over that: then each sum of its terms has room, in any order. None says nothing of the reduced cost.
-    fn priced_total(
+    pub(crate) fn priced_total(
         &self,
         place: usize,
         denominator: i64,
@@ -81,8 +84,8 @@ impl SidedBasis<'_> {
         Some(total)
     }
 
-    /// The reduced cost of a place times the denominator, as `cost_total`, by the rows whose basic variable has a cost where these are
-    /// known.
+    /// The reduced cost of a place times the denominator, as `cost_total`: as it is kept, or by the rows whose basic variable has a
+    /// cost where these are known.
     pub fn cost_total_by(
         &self,
         place: usize,
@@ -93,17 +96,15 @@ impl SidedBasis<'_> {
         requires positive { pos 0 <ℤ denominator }
         requires denominator { IsShort denominator }
         requires priced { IfSome priced.now.count (λ n. ArePriced self.now priced.now.rows.now priced.now.numbers.now n) }
+        requires kept { AreKeptCosts self.now priced.now.kept_over priced.now.kept.now }
         ensures { IfSome result (λ total. IsCostTotal self.now place denominator total) }
     {
-        match priced.count {
-            Some(count) => self.priced_total(
-                place,
-                denominator,
-                priced.rows,
-                priced.numbers,
-                count,
-            ),
-            None => self.cost_total(place, denominator),
+        let Some(count) = priced.count else {
+            return self.cost_total(place, denominator);
+        };
+        match self.kept_total(place, denominator, priced, count) {
+            Some(total) => Some(total),
+            None => self.priced_total(place, denominator, priced.rows, priced.numbers, count),
         }
     }
 }

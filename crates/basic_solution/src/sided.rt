@@ -7,7 +7,7 @@ ghost use Rattle.row_tableau.specs.Dense.{HasFullLists};
 ghost use Rattle.row_tableau.specs.Variables.{variable_number};
 ghost use Rattle.table_entries.specs.WholeSteps.{IsShort};
 ghost use Rattle.basic_solution.specs.Held.{IsSided, table, variables};
-ghost use Rattle.basic_solution.specs.RowNumbers.{AreRowNumbers};
+ghost use Rattle.basic_solution.specs.RowNumbers.{AreEntryNumbers};
 
 use crate::priced::Costs;
 use frac128::Frac;
@@ -133,7 +133,7 @@ impl SidedBasis<'_> {
     #[inline]
     pub fn row_over(&self, row: usize, denominator: i64) -> Option<&[i64]>
         requires { row < self.now.tableau.activities }
-        ensures { IfSome result (λ r. AreRowNumbers self.now row denominator r.now) }
+        ensures { IfSome result (λ r. AreEntryNumbers self.now row denominator r.now) }
     {
         match self.tableau.row_over(row, denominator) {
             Some(entries) => Some(entries),

@@ -3,7 +3,7 @@ ghost use Rattle.std.specs.Prelude.{◌≡◌, ◌<◌, ◌≤◌, ◌<ℤ◌, �
 ghost use Rattle.table_entries.specs.WholeSteps.{IsShort};
 ghost use Rattle.basic_solution.specs.Held.{table, variables};
 ghost use Rattle.basic_solution.specs.Numbers.{IsRowBreach};
-ghost use Rattle.basic_solution.specs.RowNumbers.{AreRowNumbers};
+ghost use Rattle.basic_solution.specs.RowNumbers.{AreEntryNumbers};
 ghost use Rattle.basic_solution.specs.Standing.{AreStanding, AreStandingTo, listed_number};
 ghost use Rattle.basic_solution.specs.private.Numbers.{IsBasicValueAnswer};
 ghost use Rattle.basic_solution.specs.private.RowTotals.{IsRowTotal};
@@ -79,7 +79,7 @@ impl SidedBasis<'_> {
     /// The value of the basic variable of a row times the denominator, by the variables that stand at other numbers than 0 and the
     /// numbers of the row's entries over it, where the variables' numbers are small: then each sum of the terms has room, in any
     /// order. None says nothing of the value.
-    fn standing_total_of(
+    pub(crate) fn standing_total_of(
         &self,
         row: usize,
         denominator: i64,
@@ -91,7 +91,7 @@ impl SidedBasis<'_> {
         requires row { row < self.now.tableau.activities }
         requires positive { pos 0 <ℤ denominator }
         requires denominator { IsShort denominator }
-        requires entries { AreRowNumbers self.now row denominator entries.now }
+        requires entries { AreEntryNumbers self.now row denominator entries.now }
         requires standing { AreStanding self.now places.now numbers.now count }
         ensures { IfSome result (λ total. IsRowTotal self.now row denominator total) }
     {

@@ -5,3 +5,4 @@ pub mod WholeRatios
 pub mod Answers
 pub mod Solves
 pub mod Starts
+pub mod SmallStandings

@@ -5,6 +5,7 @@ ghost use Rattle.frac128.specs.Rational.{int, ◌<ℚ◌};
 ghost use Rattle.frac128.specs.LowestTerms.{quotient_of};
 ghost use Rattle.table_entries.specs.WholeSteps.{IsShort};
 ghost use Rattle.basic_solution.specs.Held.{table};
+ghost use Rattle.basic_solution.specs.KeptCosts.{AreKeptCosts};
 ghost use Rattle.basic_solution.specs.Priced.{ArePriced};
 ghost use Rattle.dual_simplex.specs.private.WholeRatios.{IsShortRatio, IsWholeRatio};
 
@@ -28,8 +29,8 @@ fn turned(number: i64) -> i64
     -number
 }
 
-/// The first part of the ratio of a place, where it can be had without a division, by the rows whose basic variable has a cost where
-/// these are listed. None says nothing of it.
+/// The first part of the ratio of a place, where it can be had without a division, by the reduced cost that is kept, or by the rows
+/// whose basic variable has a cost where these are listed. None says nothing of it.
 pub(crate) fn whole_ratio(
     state: &SidedBasis<'_>,
     row: usize,
@@ -41,6 +42,7 @@ pub(crate) fn whole_ratio(
     requires place { place < state.now.tableau.columns }
     requires some { (table state.now).entry row place ≢ int (pos 0) }
     requires priced { IfSome priced.now.count (λ n. ArePriced state.now priced.now.rows.now priced.now.numbers.now n) }
+    requires kept { AreKeptCosts state.now priced.now.kept_over priced.now.kept.now }
     ensures { IfSome result (λ r. IsWholeRatio state.now row side place r.top r.bottom) }
 {
     let denominator = state.denominator();

@@ -5,9 +5,39 @@ ghost use Rattle.table_entries.specs.private.LeftRows.{IsWholeLeft};
 
 use crate::entries::flat_index;
 use crate::wholes::{
-    Inverse, Way, is_scaled_by_one, is_unwritten, scaled, way_of, write_whole_row,
+    Inverse, Way, are_32, has_32_bits, is_scaled_by_one, is_unwritten, product_64, scaled, way_of,
+    write_whole_row,
 };
 use whole_sums::product;
+
+/// The number of an entry from which nothing is taken, after the exchange, where the numbers have 32 bits. None says nothing of it.
+#[inline(always)]
+fn scaled_number_64(way: &Way, inverse: &Inverse, entry: i64) -> Option<i64>
+    requires scale { IsShort way.now.scale }
+    requires divisor { IsShort way.now.divisor }
+    requires multiplier { IsShort way.now.multiplier }
+    requires entry { IsShort entry }
+    ensures short { IfSome result (λ n. IsShort n) }
+    ensures product { IfSome result (λ n. n *ℤ way.now.divisor ≡ entry *ℤ way.now.scale *ℤ way.now.multiplier) }
+{
+    if !are_32(way.divisor, way.multiplier) {
+        return None;
+    }
+    if !are_32(way.scale, entry) {
+        return None;
+    }
+    let total = product_64(entry, way.scale);
+    let quotient = inverse.guess_64(total);
+    if !has_32_bits(quotient) {
+        return None;
+    }
+    let back = product_64(quotient, way.divisor);
+    if back == total {
+        Some(product_64(quotient, way.multiplier))
+    } else {
+        None
+    }
+}
 
 /// The number of an entry from which nothing is taken, after the exchange. None where a division is not exact, or where the number is
 /// not short.
@@ -22,6 +52,9 @@ fn scaled_number(way: &Way, inverse: &Inverse, entry: i64) -> Option<i64>
 {
     if is_scaled_by_one(way, entry) {
         return Some(entry);
+    }
+    if let Some(number) = scaled_number_64(way, inverse, entry) {
+        return Some(number);
     }
     scaled(product(entry, way.scale), way, inverse)
 }

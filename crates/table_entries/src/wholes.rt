@@ -42,14 +42,14 @@ impl Inverse {
 
     /// The quotient of a number of 64 bits, where the division is exact.
     #[inline(always)]
-    fn guess_64(&self, number: i64) -> i64 {
+    pub fn guess_64(&self, number: i64) -> i64 {
         let low = (number >> (self.shift % 64)).cast_unsigned();
         low.wrapping_mul(self.factor).cast_signed()
     }
 
     /// The quotient, where the division is exact and the quotient has 64 bits.
     #[inline]
-    fn guess(&self, number: i128) -> i64 {
+    pub fn guess(&self, number: i128) -> i64 {
         let low = (number >> (self.shift % 64)).cast_unsigned() % (1 << 64);
         (low as u64).wrapping_mul(self.factor).cast_signed()
     }
@@ -269,7 +269,7 @@ const LIMIT_32: i64 = 1 << 31;
 
 /// Whether the number is so small that the difference of two products of such numbers has 64 bits.
 #[inline(always)]
-fn has_32_bits(number: i64) -> bool
+pub fn has_32_bits(number: i64) -> bool
     ensures { IsTrue result → Has32Bits number }
 {
     -LIMIT_32 < number && number < LIMIT_32
@@ -277,7 +277,7 @@ fn has_32_bits(number: i64) -> bool
 
 /// Whether two numbers have 32 bits, by one test: this is asked of each entry.
 #[inline(always)]
-fn are_32(first: i64, second: i64) -> bool
+pub fn are_32(first: i64, second: i64) -> bool
     ensures first { IsTrue result → Has32Bits first }
     ensures second { IsTrue result → Has32Bits second }
 {
@@ -286,7 +286,7 @@ fn are_32(first: i64, second: i64) -> bool
 
 /// The product of two numbers that are so small.
 #[inline(always)]
-fn product_64(first: i64, second: i64) -> i64
+pub fn product_64(first: i64, second: i64) -> i64
     requires first { Has32Bits first }
     requires second { Has32Bits second }
     ensures value { result ≡ first *ℤ second }

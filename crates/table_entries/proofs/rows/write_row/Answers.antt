@@ -109,3 +109,36 @@ returns-clause-fits c = λ k less. c.loop-at_place.invariant.fits k (let past = 
 
 pub returns-clause-others : goal.returns-clause-others
 returns-clause-others c = c.loop-at_place.invariant.others
+
+pub flat_index-requires-clause-row : goal.flat_index-requires-clause-row
+flat_index-requires-clause-row c = c.requires.row
+
+pub flat_index-requires-clause-place : goal.flat_index-requires-clause-place
+flat_index-requires-clause-place c = c.requires.place
+
+pub flat_index-requires-2-clause-row : goal.flat_index-requires-2-clause-row
+flat_index-requires-2-clause-row c = c.requires.at_row
+
+pub flat_index-requires-2-clause-place : goal.flat_index-requires-2-clause-place
+flat_index-requires-2-clause-place c = c.requires.place
+
+pub flat_index-requires-in-loop-at_place-clause-row : goal.flat_index-requires-in-loop-at_place-clause-row
+flat_index-requires-in-loop-at_place-clause-row c = c.requires.row
+
+pub flat_index-requires-in-loop-at_place-clause-place : goal.flat_index-requires-in-loop-at_place-clause-place
+flat_index-requires-in-loop-at_place-clause-place c = c.loop-at_place-test.true
+
+pub flat_index-at-requires-clause-row : goal.flat_index-at-requires-clause-row
+flat_index-at-requires-clause-row c = c.requires.at_row
+
+pub flat_index-at-requires-clause-place : goal.flat_index-at-requires-clause-place
+flat_index-at-requires-clause-place c = c.loop-at_place-test.true
+
+pub returns-in-Err-clause-written : goal.returns-in-Err-clause-written
+returns-in-Err-clause-written c = tt
+
+pub returns-in-Err-clause-fits : goal.returns-in-Err-clause-fits
+returns-in-Err-clause-fits c = tt
+
+pub returns-clause-wide : goal.returns-clause-wide
+returns-clause-wide c = tt

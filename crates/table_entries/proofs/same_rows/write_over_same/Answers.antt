@@ -26,3 +26,51 @@ returns-clause-written c = λ t at less flag.
     let a = c.args in
     let d1 = short_read a.denominator c.requires.denominator in
     subst₂ (λ d g. WholeAt a.columns a.row a.place d g a.numbers.now (whole_number_at c.write_rows_over_same-2.new.next at) at) d1 d1 (c.write_rows_over_same-2.ensures.written t at less flag)
+
+pub write_rows_over_same-requires-clause-row : goal.write_rows_over_same-requires-clause-row
+write_rows_over_same-requires-clause-row c = c.requires.row
+
+pub write_rows_over_same-requires-clause-place : goal.write_rows_over_same-requires-clause-place
+write_rows_over_same-requires-clause-place c = c.requires.place
+
+pub write_rows_over_same-requires-clause-size : goal.write_rows_over_same-requires-clause-size
+write_rows_over_same-requires-clause-size c = c.requires.size
+
+pub write_rows_over_same-requires-clause-room : goal.write_rows_over_same-requires-clause-room
+write_rows_over_same-requires-clause-room c = c.requires.room
+
+pub write_rows_over_same-requires-clause-short : goal.write_rows_over_same-requires-clause-short
+write_rows_over_same-requires-clause-short c = c.requires.short
+
+pub write_rows_over_same-requires-clause-next : goal.write_rows_over_same-requires-clause-next
+write_rows_over_same-requires-clause-next c = c.requires.next
+
+pub write_rows_over_same-requires-clause-some : goal.write_rows_over_same-requires-clause-some
+write_rows_over_same-requires-clause-some c = c.requires.some
+
+pub write_rows_over_same-requires-2-clause-row : goal.write_rows_over_same-requires-2-clause-row
+write_rows_over_same-requires-2-clause-row c = c.requires.row
+
+pub write_rows_over_same-requires-2-clause-place : goal.write_rows_over_same-requires-2-clause-place
+write_rows_over_same-requires-2-clause-place c = c.requires.place
+
+pub write_rows_over_same-requires-2-clause-size : goal.write_rows_over_same-requires-2-clause-size
+write_rows_over_same-requires-2-clause-size c = c.requires.size
+
+pub write_rows_over_same-requires-2-clause-room : goal.write_rows_over_same-requires-2-clause-room
+write_rows_over_same-requires-2-clause-room c = c.requires.room
+
+pub write_rows_over_same-requires-2-clause-short : goal.write_rows_over_same-requires-2-clause-short
+write_rows_over_same-requires-2-clause-short c = c.requires.short
+
+pub write_rows_over_same-requires-2-clause-next : goal.write_rows_over_same-requires-2-clause-next
+write_rows_over_same-requires-2-clause-next c = c.requires.next
+
+pub write_rows_over_same-requires-2-clause-some : goal.write_rows_over_same-requires-2-clause-some
+write_rows_over_same-requires-2-clause-some c = c.requires.some
+
+pub returns-then-columns-le-FEW_PLACES-clause-short : goal.returns-then-columns-le-FEW_PLACES-clause-short
+returns-then-columns-le-FEW_PLACES-clause-short c = c.write_rows_over_same.ensures.short
+
+pub returns-clause-short : goal.returns-clause-short
+returns-clause-short c = c.write_rows_over_same-2.ensures.short

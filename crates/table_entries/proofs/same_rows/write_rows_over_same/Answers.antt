@@ -1,4 +1,5 @@
 use Rattle.std.proofs.Common.{subst₂, arith, ◌<◌, ◌≤◌, ◌*◌}
+use Rattle.std.proofs.lemmas.Bool.{false≢true}
 use Rattle.std.proofs.Math.Nat.{mul-le-mul_right}
 use Rattle.table_entries.specs.WholeSteps.{WholeAt, whole_number_at}
 use Rattle.table_entries.proofs.ReadLemmas.{short_read, short_again, positive_again}
@@ -36,3 +37,36 @@ loop-at_row-preserved c = record { written = c.write_row_over_same.ensures.writt
 
 pub returns-clause-short : goal.returns-clause-short
 returns-clause-short c = c.loop-at_row.invariant.short
+
+pub write_next_entries-requires-clause-row : goal.write_next_entries-requires-clause-row
+write_next_entries-requires-clause-row c = c.requires.row
+
+pub write_next_entries-requires-clause-size : goal.write_next_entries-requires-clause-size
+write_next_entries-requires-clause-size c = c.requires.size
+
+pub write_row_over_same-requires-clause-row : goal.write_row_over_same-requires-clause-row
+write_row_over_same-requires-clause-row c = c.requires.row
+
+pub write_row_over_same-requires-clause-place : goal.write_row_over_same-requires-clause-place
+write_row_over_same-requires-clause-place c = c.requires.place
+
+pub write_row_over_same-requires-clause-size : goal.write_row_over_same-requires-clause-size
+write_row_over_same-requires-clause-size c = c.requires.size
+
+pub write_row_over_same-requires-clause-short : goal.write_row_over_same-requires-clause-short
+write_row_over_same-requires-clause-short c = c.requires.short
+
+pub write_row_over_same-requires-clause-some : goal.write_row_over_same-requires-clause-some
+write_row_over_same-requires-clause-some c = c.requires.some
+
+pub write_row_over_same-requires-clause-at_row : goal.write_row_over_same-requires-clause-at_row
+write_row_over_same-requires-clause-at_row c = c.loop-at_row-test.true
+
+pub write_row_over_same-requires-clause-nexts : goal.write_row_over_same-requires-clause-nexts
+write_row_over_same-requires-clause-nexts c = c.write_next_entries.ensures
+
+pub returns-then-not-write_row_over_same-clause-written : goal.returns-then-not-write_row_over_same-clause-written
+returns-then-not-write_row_over_same-clause-written c = λ t. absurd (false≢true t)
+
+pub returns-then-not-write_row_over_same-clause-short : goal.returns-then-not-write_row_over_same-clause-short
+returns-then-not-write_row_over_same-clause-short c = c.write_row_over_same.ensures.short

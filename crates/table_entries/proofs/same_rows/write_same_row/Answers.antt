@@ -1,6 +1,7 @@
 use Rattle.std.proofs.Common.{refl, sym, ap, subst, subst₂, ◌∙◌, arith, pos, ℕ, ℤ, List, ◌≡◌, ◌≢◌, ◌<◌, ◌≤◌, ◌+◌, ◌*◌, ◌==◌, length, to_z, of_z, w64, false}
 use Rattle.std.specs.Prelude.{set}
 use Rattle.std.proofs.lemmas.List.{get_or-set_other}
+use Rattle.std.proofs.lemmas.Bool.{false≢true}
 use Rattle.table_entries.specs.WholeSteps.{IsShort, AreShort, AreWritten, WholeAt, whole_number_at}
 use Rattle.table_entries.proofs.ReadLemmas.{short_read, short_again, positive_again}
 use Rattle.table_entries.proofs.WholeLemmas.{way_step, step_at}
@@ -184,3 +185,63 @@ returns-clause-short c = c.loop-at_place.invariant.short
 
 pub returns-in-None-clause-short : goal.returns-in-None-clause-short
 returns-in-None-clause-short c = c.loop-at_place.invariant.short
+
+pub returns-then-is_unwritten-clause-short : goal.returns-then-is_unwritten-clause-short
+returns-then-is_unwritten-clause-short c = c.requires.next
+
+pub flat_index-requires-clause-row : goal.flat_index-requires-clause-row
+flat_index-requires-clause-row c = c.requires.row
+
+pub flat_index-requires-clause-place : goal.flat_index-requires-clause-place
+flat_index-requires-clause-place c = c.requires.place
+
+pub flat_index-requires-2-clause-row : goal.flat_index-requires-2-clause-row
+flat_index-requires-2-clause-row c = c.requires.at_row
+
+pub flat_index-requires-2-clause-place : goal.flat_index-requires-2-clause-place
+flat_index-requires-2-clause-place c = c.requires.place
+
+pub flat_index-at-requires-clause-row : goal.flat_index-at-requires-clause-row
+flat_index-at-requires-clause-row c = c.requires.at_row
+
+pub flat_index-at-requires-clause-place : goal.flat_index-at-requires-clause-place
+flat_index-at-requires-clause-place c = c.loop-at_place-test.true
+
+pub returns-in_default-clause-written : goal.returns-in_default-clause-written
+returns-in_default-clause-written c = λ t. absurd (false≢true t)
+
+pub returns-in_default-clause-short : goal.returns-in_default-clause-short
+returns-in_default-clause-short c = c.requires.next
+
+pub returns-in-None-clause-written : goal.returns-in-None-clause-written
+returns-in-None-clause-written c = λ t. absurd (false≢true t)
+
+pub flat_index-requires-in-loop-at_place-clause-row : goal.flat_index-requires-in-loop-at_place-clause-row
+flat_index-requires-in-loop-at_place-clause-row c = c.requires.row
+
+pub flat_index-requires-in-loop-at_place-clause-place : goal.flat_index-requires-in-loop-at_place-clause-place
+flat_index-requires-in-loop-at_place-clause-place c = c.loop-at_place-test.true
+
+pub take_row-requires-clause-row : goal.take_row-requires-clause-row
+take_row-requires-clause-row c = c.requires.at_row
+
+pub take_row-requires-clause-size : goal.take_row-requires-clause-size
+take_row-requires-clause-size c = c.requires.room
+
+pub take_row-requires-clause-next : goal.take_row-requires-clause-next
+take_row-requires-clause-next c = c.requires.size
+
+pub take_row-requires-clause-next_short : goal.take_row-requires-clause-next_short
+take_row-requires-clause-next_short c = c.requires.short
+
+pub take_row-requires-clause-short : goal.take_row-requires-clause-short
+take_row-requires-clause-short c = c.requires.next
+
+pub next_entry-at_place-requires : goal.next_entry-at_place-requires
+next_entry-at_place-requires c = omega arith
+
+pub next_entry-at_place-requires-in-loop-at_place : goal.next_entry-at_place-requires-in-loop-at_place
+next_entry-at_place-requires-in-loop-at_place c = let t = c.loop-at_place-test.true in omega (arith, t)
+
+pub overflow_add-at_place : goal.overflow_add-at_place
+overflow_add-at_place c = let t = c.loop-at_place-test.true in let r = c.ranges.columns in omega (arith, t, r)

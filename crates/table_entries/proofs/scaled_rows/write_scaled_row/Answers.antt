@@ -1,6 +1,7 @@
 use Rattle.std.proofs.Common.{refl, sym, ap, subst, subst₂, ◌∙◌, arith, pos, ℕ, ℤ, List, ◌≡◌, ◌≢◌, ◌<◌, ◌+◌, ◌*◌, ◌==◌, length, to_z, of_z, w64, true, false}
 use Rattle.std.proofs.lemmas.Bool.{eqb-true}
 use Rattle.std.proofs.lemmas.Int.{ints}
+use Rattle.std.proofs.lemmas.Bool.{false≢true}
 use Rattle.table_entries.specs.WholeSteps.{IsShort, AreShort, WholeAt, whole_number_at}
 use Rattle.table_entries.proofs.ReadLemmas.{short_read, short_again, positive_again}
 use Rattle.table_entries.proofs.PivotLemmas.{flat_within}
@@ -155,3 +156,39 @@ returns-clause-short c = c.loop-at_place.invariant.short
 
 pub returns-in-None-clause-short : goal.returns-in-None-clause-short
 returns-in-None-clause-short c = c.loop-at_place.invariant.short
+
+pub returns-then-is_unwritten-clause-short : goal.returns-then-is_unwritten-clause-short
+returns-then-is_unwritten-clause-short c = c.requires.next
+
+pub flat_index-requires-clause-row : goal.flat_index-requires-clause-row
+flat_index-requires-clause-row c = c.requires.row
+
+pub flat_index-requires-clause-place : goal.flat_index-requires-clause-place
+flat_index-requires-clause-place c = c.requires.place
+
+pub flat_index-requires-2-clause-row : goal.flat_index-requires-2-clause-row
+flat_index-requires-2-clause-row c = c.requires.at_row
+
+pub flat_index-requires-2-clause-place : goal.flat_index-requires-2-clause-place
+flat_index-requires-2-clause-place c = c.requires.place
+
+pub flat_index-at-requires-clause-row : goal.flat_index-at-requires-clause-row
+flat_index-at-requires-clause-row c = c.requires.at_row
+
+pub flat_index-at-requires-clause-place : goal.flat_index-at-requires-clause-place
+flat_index-at-requires-clause-place c = c.loop-at_place-test.true
+
+pub returns-in_default-clause-written : goal.returns-in_default-clause-written
+returns-in_default-clause-written c = λ t. absurd (false≢true t)
+
+pub returns-in_default-clause-short : goal.returns-in_default-clause-short
+returns-in_default-clause-short c = c.requires.next
+
+pub returns-in-None-clause-written : goal.returns-in-None-clause-written
+returns-in-None-clause-written c = λ t. absurd (false≢true t)
+
+pub returns-then-way-ne0-clause-written : goal.returns-then-way-ne0-clause-written
+returns-then-way-ne0-clause-written c = λ t. absurd (false≢true t)
+
+pub returns-then-way-ne0-clause-short : goal.returns-then-way-ne0-clause-short
+returns-then-way-ne0-clause-short c = c.requires.next

@@ -1,4 +1,5 @@
 use Rattle.std.proofs.Common.{subst₂, arith, ◌<◌, ◌≤◌, ◌*◌}
+use Rattle.std.proofs.lemmas.Bool.{false≢true}
 use Rattle.std.proofs.Math.Nat.{mul-le-mul_right}
 use Rattle.table_entries.specs.WholeSteps.{WholeAt, whole_number_at}
 use Rattle.table_entries.proofs.ReadLemmas.{short_read, short_again, positive_again}
@@ -43,3 +44,27 @@ write_row_over-requires-clause-after_positive c = positive_again c.args.after c.
 
 pub write_row_over-requires-clause-after : goal.write_row_over-requires-clause-after
 write_row_over-requires-clause-after c = short_again c.args.after c.requires.after
+
+pub write_row_over-requires-clause-row : goal.write_row_over-requires-clause-row
+write_row_over-requires-clause-row c = c.requires.row
+
+pub write_row_over-requires-clause-place : goal.write_row_over-requires-clause-place
+write_row_over-requires-clause-place c = c.requires.place
+
+pub write_row_over-requires-clause-size : goal.write_row_over-requires-clause-size
+write_row_over-requires-clause-size c = c.requires.size
+
+pub write_row_over-requires-clause-short : goal.write_row_over-requires-clause-short
+write_row_over-requires-clause-short c = c.requires.short
+
+pub write_row_over-requires-clause-some : goal.write_row_over-requires-clause-some
+write_row_over-requires-clause-some c = c.requires.some
+
+pub write_row_over-requires-clause-at_row : goal.write_row_over-requires-clause-at_row
+write_row_over-requires-clause-at_row c = c.loop-at_row-test.true
+
+pub returns-then-not-write_row_over-clause-written : goal.returns-then-not-write_row_over-clause-written
+returns-then-not-write_row_over-clause-written c = λ t. absurd (false≢true t)
+
+pub returns-then-not-write_row_over-clause-short : goal.returns-then-not-write_row_over-clause-short
+returns-then-not-write_row_over-clause-short c = c.write_row_over.ensures.short

@@ -1,4 +1,4 @@
-use Rattle.std.proofs.Common.{◌≡◌, ◌<◌, ◌*◌, ◌^◌, ◌*ℤ◌, ℤ, unsigned_abs, sym, subst, arith, to_z, of_z, w64}
+use Rattle.std.proofs.Common.{◌≡◌, ◌<◌, ◌^◌, ◌*ℤ◌, ℤ, unsigned_abs, sym, subst, arith, to_z, of_z, w64}
 use Rattle.std.proofs.lemmas.Int.{ints}
 use Rattle.table_entries.specs.private.Ways.{Has32Bits}
 use Rattle.table_entries.proofs.WayLemmas.{read_32, slim_product}

@@ -16,7 +16,7 @@ returns c =
     let side = c.args.side in
     let farkas = c.farkas_list-farkas.result in
     let mult = c.multiplier_list-mult.result in
-    infeasible_of_lists c.args.self.now (subst IsLpState c.self.view_is c.self.invariant) c.requires.blocked row side c.requires.out c.requires.values farkas mult c.args.basis c.requires.basis
+    infeasible_of_lists c.args.self.now (subst IsLpState c.self.view_is c.self.invariant.0) c.requires.blocked row side c.requires.out c.requires.values farkas mult c.args.basis c.requires.basis
     (subst (λ s. IfOk farkas (AreListedMultipliers s (farkas_weights (relaxation s) (state s) row side))) c.self.view_is c.farkas_list-farkas.ensures)
     (subst (λ s. IfOk mult (AreMultipliersAnswer s (multipliers (relaxation s) (table s) (relaxation s).cost))) c.self.view_is c.multiplier_list-mult.ensures)
     c.infeasible_with.result c.infeasible_with.ensures

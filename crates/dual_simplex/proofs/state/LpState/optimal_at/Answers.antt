@@ -8,7 +8,7 @@ use Rattle.dual_simplex.proofs.state.LpState.optimal_at.Goals as goal
 
 pub returns-in-Ok-listed : goal.returns-in-Ok-listed
 returns-in-Ok-listed c = λ n limit.
-    let lawful = subst IsLpState c.self.view_is c.self.invariant in
+    let lawful = subst IsLpState c.self.view_is c.self.invariant.0 in
     let mult = subst (λ s. AreMultipliersAnswer s (multipliers (relaxation s) (table s) (relaxation s).cost) (Ok c.in-Ok-listed.mult)) c.self.view_is
     (subst (λ o. AreMultipliersAnswer c.self.inside.basis (multipliers (relaxation c.self.inside.basis) (table c.self.inside.basis) (relaxation c.self.inside.basis).cost) o) c.in-Ok-listed.is c.in-Ok.ensures) in
     (optimum c.args.self.now lawful.kept lawful.ordered lawful.free c.args.point c.in-Ok-listed.mult c.requires.inside c.requires.point mult.0 mult.1, c.requires.basis)

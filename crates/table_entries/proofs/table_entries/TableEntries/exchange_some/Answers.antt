@@ -1,4 +1,5 @@
 use Rattle.std.proofs.Common.{◌≤◌, vec_capacity, refl, sym, ap, subst, subst₂, ◌∙◌, arith, ◌≡◌, ◌≢◌, ◌<◌, ◌<ℤ◌, ◌+◌, ◌*◌, length, get_or, pos, to_z, of_z, w64, ℕ, true, false}
+use Rattle.std.proofs.lemmas.Bool.{false≢true}
 use Rattle.std.proofs.lemmas.Int.{ints}
 use Rattle.std.proofs.lemmas.List.{with_items_is}
 use Rattle.frac128.specs.Rational.{int}
@@ -222,3 +223,24 @@ returns-clause-done c = λ t.
     (listed_numbers self.is_whole self.denominator _ self.fractions.items form ∙ (λ j. over self.denominator (new_is j)))
     refl new_is slim
     (left_within a.rows a.columns a.row a.place self.denominator numbers a.unwritten.now marks next new c.requires.row c.requires.place size are.short are.positive are.denominator_short some left written taken kept a.limit before after)
+
+pub mark_left-requires-clause-place : goal.mark_left-requires-clause-place
+mark_left-requires-clause-place c = c.requires.place
+
+pub write_over_same-requires-clause-row : goal.write_over_same-requires-clause-row
+write_over_same-requires-clause-row c = c.requires.row
+
+pub write_over_same-requires-clause-place : goal.write_over_same-requires-clause-place
+write_over_same-requires-clause-place c = c.requires.place
+
+pub returns-then-not-is_below-clause-done : goal.returns-then-not-is_below-clause-done
+returns-then-not-is_below-clause-done c = λ t. absurd (false≢true t)
+
+pub returns-then-not-write_over_same-clause-done : goal.returns-then-not-write_over_same-clause-done
+returns-then-not-write_over_same-clause-done c = λ t. absurd (false≢true t)
+
+pub returns-then-not-are_within-clause-done : goal.returns-then-not-are_within-clause-done
+returns-then-not-are_within-clause-done c = λ t. absurd (false≢true t)
+
+pub returns-clause-kept : goal.returns-clause-kept
+returns-clause-kept c = λ f. absurd (false≢true (sym f))

@@ -1,6 +1,6 @@
 use Rattle.std.proofs.Common.{subst, IfSome}
 use Rattle.basic_solution.specs.Standing.{AreStanding}
-use Rattle.dual_simplex.proofs.leaving.row_breach.Goals as goal
+use Rattle.dual_simplex.proofs.leaving.listed_breach.Goals as goal
 
 pub standing_breach-requires-clause-standing : goal.standing_breach-requires-clause-standing
 standing_breach-requires-clause-standing c =

@@ -1,0 +1,23 @@
+use Rattle.std.proofs.Common.{◌≡◌, ◌∙◌, sym, subst, to_z, of_z, w64}
+use Rattle.std.specs.Int.{w128}
+use Rattle.frac128.specs.LowestTerms.{quotient_of}
+use Rattle.table_entries.specs.WholeSteps.{IsShort}
+use Rattle.table_entries.proofs.ReadLemmas.{short_read, product_read}
+use Rattle.basic_solution.proofs.FollowLemmas.{value_at, known_value}
+use Rattle.basic_solution.proofs.sided.SidedBasis.keep_value.Goals as goal
+
+pub returns-in-Some-short_number : goal.returns-in-Some-short_number
+returns-in-Some-short_number c =
+    let now = c.args.self.now in
+    let row = c.args.row in
+    let d = c.args.denominator in
+    let total = c.in-Some-standing_total_of.total in
+    let number = c.in-Some-short_number.number in
+    let short : IsShort number = c.in-Some-short_number.ensures.short in
+    let n = to_z w64 (of_z w64 number) in
+    let n_is : n ≡ number = short_read number short in
+    let t_is : to_z w128 (of_z w128 total) ≡ total = product_read total c.in-Some-standing_total_of.ensures.margin in
+    let d_is : to_z w64 (of_z w64 d) ≡ d = short_read d c.requires.kept.denominator_short in
+    let total_is : n ≡ total = n_is ∙ c.in-Some-short_number.ensures.value ∙ t_is in
+    let value : quotient_of n d ≡ value_at now row = (λ i. quotient_of (total_is i) (sym d_is i)) ∙ c.in-Some-standing_total_of.ensures.value in
+    known_value now d c.args.kept.now c.requires.kept row c.requires.row n (subst IsShort (sym n_is) short) value
