@@ -1,0 +1,16 @@
+use Rattle.std.proofs.Common.{ap, ◌∙◌, Vec, Global}
+use Rattle.frontier.specs.declared.outcomes.Outcome.{Outcome}
+use Rattle.frontier.specs.Covers.{is_behind}
+use Rattle.frontier.proofs.FilterSteps.{kept_more, kept_same}
+use Rattle.frontier.proofs.fronts.push_behind.Goals as goal
+use Rattle.frontier.proofs.fronts.push_behind.Goals.{then-is_behind+in_ok-push, else-is_behind}
+
+pub loop-member-preserved : goal.loop-member-preserved
+loop-member-preserved c =
+    let k = c.loop-member.member-index in
+    elim c.if-is_behind.branch [
+      | then-is_behind+in_ok-push w ↦ kept_more (is_behind c.args.outcome.now) c.args.members.now c.args.list.now.items c.loop-member.list.items c.if-is_behind.list.items k _ _
+          c.loop-member-test.true c.loop-member.invariant c.is_behind.ensures w.if-is_behind.true (ap (λ (v : Vec Outcome Global). v.items) w.list-is ∙ w.in_ok-push.ensures.items)
+      | else-is_behind w ↦ kept_same (is_behind c.args.outcome.now) c.args.members.now c.args.list.now.items c.loop-member.list.items c.if-is_behind.list.items k _ _
+          c.loop-member-test.true c.loop-member.invariant c.is_behind.ensures w.if-is_behind.false (ap (λ (v : Vec Outcome Global). v.items) w.list-is)
+    ]
