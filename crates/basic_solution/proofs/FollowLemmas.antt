@@ -59,12 +59,12 @@ mark_kept n e = subst IsShortOrMark (sym e) (omega arith)
 pub mark_long : (n : ℤ) → n ≡ pos (2 ^ 62) → ¬ IsShort n
 mark_long n e h = let long : IsShort (pos (2 ^ 62)) = subst IsShort e h in omega (arith, long)
 
-pub but_kept : (at : ℕ) (n : ℤ) (numbers : List ℤ) (k : ℕ) → IsShortOrMark n → AreShortOrMarks numbers → IsShortOrMark (number_but at n numbers k)
-but_kept at n numbers k h range = by (k == at)
+pub but_kept : (exchanged : ℕ) (other : ℤ) (numbers : List ℤ) (at : ℕ) → IsShortOrMark other → AreShortOrMarks numbers → IsShortOrMark (number_but exchanged other numbers at)
+but_kept exchanged other numbers at h range = by (at == exchanged)
   where
-    by : (t : Bool) → IsShortOrMark (if t then n else whole_number_at numbers k)
+    by : (t : Bool) → IsShortOrMark (if t then other else whole_number_at numbers at)
     by true = h
-    by false = range k
+    by false = range at
 
 -- one number more
 pub set_kept : (numbers : List ℤ) (at : ℕ) (n : ℤ) → at < length numbers → IsShortOrMark n → AreShortOrMarks numbers → AreShortOrMarks (set numbers at n)

@@ -1,11 +1,11 @@
 // Numbers over one denominator that follow an exchange: those after it come from those before it by one product and one division.
 // No theorem says that the division is exact, so the quotient is tested.
-ghost use Rattle.std.specs.Prelude.{◌≡◌, ◌<ℤ◌, ◌*ℤ◌, pos, length, IsTrue};
+ghost use Rattle.std.specs.Prelude.{◌≡◌, ◌<◌, length, IsTrue};
 ghost use Rattle.table_entries.specs.WholeSteps.{IsShort};
 ghost use Rattle.basic_solution.specs.KeptCosts.{IsShortOrMark};
-ghost use Rattle.basic_solution.specs.private.Followed.{AreUnknown, IsFollowed};
+ghost use Rattle.basic_solution.specs.private.Followed.{AreUnknown, IsFollowed, number_but};
 
-use table_entries::Inverse;
+use table_entries::{Inverse, exact_quotient};
 use whole_sums::{SHORT_LIMIT, product};
 
 /// Stands where a number is not known: it is not short.
@@ -19,23 +19,14 @@ pub fn is_short(number: i64) -> bool
     -SHORT_LIMIT < number && number < SHORT_LIMIT
 }
 
-/// The quotient, if the division is exact and it is short, and else a number that is not short.
+/// The number of a list at an index, another one at that of the exchange.
 #[inline]
-fn exact_quotient(total: i128, divisor: i64, inverse: &Inverse) -> i64
-    requires divisor { IsShort divisor }
-    requires positive { pos 0 <ℤ divisor }
-    ensures value { IsShort result → result *ℤ divisor ≡ total }
-    ensures kept { IsShortOrMark result }
+pub fn number_but(numbers: &[i64], exchanged: usize, other: i64, at: usize) -> i64
+    requires at { at < length numbers.now }
+    requires other { IsShortOrMark other }
+    ensures { result ≡ number_but exchanged other numbers.now at }
 {
-    let quotient = inverse.guess(total);
-    if !is_short(quotient) {
-        return UNKNOWN;
-    }
-    if product(quotient, divisor) == total {
-        quotient
-    } else {
-        UNKNOWN
-    }
+    if at == exchanged { other } else { numbers[at] }
 }
 
 /// The number over the denominator after an exchange, by that over the denominator before it and by what a factor over that times an
@@ -50,7 +41,6 @@ pub fn followed(
     inverse: &Inverse,
 ) -> i64
     requires before { IsShort before }
-    requires positive { pos 0 <ℤ before }
     requires after { IsShort after }
     requires factor { IsShort factor }
     requires entry { IsShort entry }
@@ -66,11 +56,11 @@ pub fn followed(
     if entry == 0 && number == 0 {
         return 0;
     }
-    exact_quotient(
-        product(number, after) + product(factor, entry),
-        before,
-        inverse,
-    )
+    let total = product(number, after) + product(factor, entry);
+    match exact_quotient(total, before, inverse) {
+        Some(quotient) => quotient,
+        None => UNKNOWN,
+    }
 }
 
 /// Lets no number be known.

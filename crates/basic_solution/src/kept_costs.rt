@@ -9,23 +9,13 @@ ghost use Rattle.basic_solution.specs.Held.{Held, IsSided, table};
 ghost use Rattle.basic_solution.specs.KeptCosts.{AreKeptCosts, AreShortOrMarks};
 ghost use Rattle.basic_solution.specs.Priced.{ArePriced};
 ghost use Rattle.basic_solution.specs.RowTotals.{IsCostTotal};
-ghost use Rattle.basic_solution.specs.private.Followed.{number_but};
 
-use crate::followed::{UNKNOWN, followed, forget, is_short};
-use crate::priced_rows::PricedRows;
+use crate::followed::{UNKNOWN, followed, forget, is_short, number_but};
+use crate::priced_rows::CostSource;
 use crate::sided::SidedBasis;
 use std::alloc::{AllocError, Global};
 use table_entries::Inverse;
 use whole_sums::short_number;
-
-/// The number of a place before an exchange, 0 for the one at which it is made.
-#[inline]
-fn other_number(kept: &[i64], place: usize, at: usize) -> i64
-    requires { at < length kept.now }
-    ensures { result ≡ number_but place (pos 0) kept.now at }
-{
-    if at == place { 0 } else { kept[at] }
-}
 
 impl SidedBasis<'_> {
     /// A list of reduced costs, none of which is known.
@@ -51,20 +41,20 @@ impl SidedBasis<'_> {
         &self,
         place: usize,
         denominator: i64,
-        priced: &PricedRows<'_>,
+        source: &CostSource<'_>,
         count: usize,
     ) -> Option<i128>
         requires place { place < self.now.tableau.columns }
         requires positive { pos 0 <ℤ denominator }
         requires denominator { IsShort denominator }
-        requires priced { ArePriced self.now priced.now.rows.now priced.now.numbers.now count }
-        requires kept { AreKeptCosts self.now priced.now.kept_over priced.now.kept.now }
+        requires priced { ArePriced self.now source.now.rows.now source.now.numbers.now count }
+        requires kept { AreKeptCosts self.now source.now.kept_over source.now.kept.now }
         ensures { IfSome result (λ total. IsCostTotal self.now place denominator total) }
     {
-        if priced.kept_over != denominator {
+        if source.kept_over != denominator {
             return None;
         }
-        let number = priced.kept[place];
+        let number = source.kept[place];
         if !is_short(number) {
             return None;
         }
@@ -78,7 +68,7 @@ impl SidedBasis<'_> {
         Some(i128::from(number))
     }
 
-    /// Keeps the reduced cost of a place, where it can be had over the denominator.
+    /// Keeps the reduced cost of a place, where it can be had over the denominator. Whether it is kept is not asked here.
     pub fn keep_cost(
         &self,
         place: usize,
@@ -93,9 +83,6 @@ impl SidedBasis<'_> {
         requires kept { AreKeptCosts self.now denominator kept.old }
         ensures { AreKeptCosts self.now denominator kept.new }
     {
-        if is_short(kept[place]) {
-            return;
-        }
         let Some(total) = self.priced_total(place, denominator, rows, numbers, count) else {
             return;
         };
@@ -128,7 +115,7 @@ impl SidedBasis<'_> {
         let inverse = Inverse::of(before);
         for at in 0..kept.len() {
             kept[at] = followed(
-                other_number(kept, place, at),
+                number_but(kept, place, 0, at),
                 before,
                 after,
                 factor,

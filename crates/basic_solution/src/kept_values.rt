@@ -11,9 +11,9 @@ ghost use Rattle.basic_solution.specs.KeptValues.{AreKeptValues};
 ghost use Rattle.basic_solution.specs.Numbers.{IsRowBreach};
 ghost use Rattle.basic_solution.specs.RowTotals.{IsSmallNumber};
 ghost use Rattle.basic_solution.specs.Standing.{AreStanding};
-ghost use Rattle.basic_solution.specs.private.Followed.{IsFollowedValue, IsValueStep, number_but};
+ghost use Rattle.basic_solution.specs.private.Followed.{IsFollowedValue, IsValueStep};
 
-use crate::followed::{UNKNOWN, followed, forget, is_short};
+use crate::followed::{UNKNOWN, followed, forget, is_short, number_but};
 use crate::row_totals::{is_small, small_number};
 use crate::sided::SidedBasis;
 use crate::total_sides::total_breach;
@@ -27,16 +27,6 @@ use whole_sums::{product, short_number};
 pub struct ValueStep {
     start: i64,
     factor: i64,
-}
-
-/// The number of a row before an exchange, another one for that at which it is made.
-#[inline]
-fn number_but(kept: &[i64], row: usize, start: i64, at: usize) -> i64
-    requires at { at < length kept.now }
-    requires start { IsShortOrMark start }
-    ensures { result ≡ number_but row start kept.now at }
-{
-    if at == row { start } else { kept[at] }
 }
 
 /// Whether the first numbers, as many as these, are small.
@@ -177,7 +167,6 @@ impl SidedBasis<'_> {
         requires row { row < self.now.tableau.activities }
         requires place { place < self.now.tableau.columns }
         requires before { IsShort before }
-        requires positive { pos 0 <ℤ before }
         requires after { IsShort after }
         requires factor { IsShort factor }
         ensures value { IsFollowedValue before after factor ((table self.now).entry row place) number result }

@@ -47,6 +47,6 @@ mod written;
 
 pub use followed::is_short;
 pub use kept_values::are_all_small;
-pub use priced_rows::PricedRows;
+pub use priced_rows::CostSource;
 pub use sided::SidedBasis;
 pub use sides::signed;

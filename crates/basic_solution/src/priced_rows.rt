@@ -10,10 +10,10 @@ use crate::sided::SidedBasis;
 use table_entries::flat_index;
 use whole_sums::product;
 
-/// The rows whose basic variable has a cost, beside them these costs, and how many there are, where that is known
-/// (`SidedBasis::write_priced`); and the reduced costs that are kept, with their denominator.
+/// By what reduced costs are had: those that are kept, with their denominator, and the rows whose basic variable has a cost, beside them
+/// these costs, and how many there are, where that is known (`SidedBasis::write_priced`).
 #[derive(Clone, Copy, Drop)]
-pub struct PricedRows<'a> {
+pub struct CostSource<'a> {
     pub rows: &'a [usize],
     pub numbers: &'a [i64],
     pub count: Option<usize>,
@@ -84,27 +84,27 @@ impl SidedBasis<'_> {
         Some(total)
     }
 
-    /// The reduced cost of a place times the denominator, as `cost_total`: as it is kept, or by the rows whose basic variable has a
-    /// cost where these are known.
+    /// The reduced cost of a place times the denominator: where the rows whose basic variable has a cost are listed, as it is kept, or by
+    /// these rows; where they are not, as `cost_total`, and what is kept isn't read.
     pub fn cost_total_by(
         &self,
         place: usize,
         denominator: i64,
-        priced: &PricedRows<'_>,
+        source: &CostSource<'_>,
     ) -> Option<i128>
         requires place { place < self.now.tableau.columns }
         requires positive { pos 0 <ℤ denominator }
         requires denominator { IsShort denominator }
-        requires priced { IfSome priced.now.count (λ n. ArePriced self.now priced.now.rows.now priced.now.numbers.now n) }
-        requires kept { AreKeptCosts self.now priced.now.kept_over priced.now.kept.now }
+        requires priced { IfSome source.now.count (λ n. ArePriced self.now source.now.rows.now source.now.numbers.now n) }
+        requires kept { AreKeptCosts self.now source.now.kept_over source.now.kept.now }
         ensures { IfSome result (λ total. IsCostTotal self.now place denominator total) }
     {
-        let Some(count) = priced.count else {
+        let Some(count) = source.count else {
             return self.cost_total(place, denominator);
         };
-        match self.kept_total(place, denominator, priced, count) {
+        match self.kept_total(place, denominator, source, count) {
             Some(total) => Some(total),
-            None => self.priced_total(place, denominator, priced.rows, priced.numbers, count),
+            None => self.priced_total(place, denominator, source.rows, source.numbers, count),
         }
     }
 }

@@ -9,7 +9,7 @@ ghost use Rattle.basic_solution.specs.KeptCosts.{AreKeptCosts};
 ghost use Rattle.basic_solution.specs.Priced.{ArePriced};
 ghost use Rattle.dual_simplex.specs.private.WholeRatios.{IsShortRatio, IsWholeRatio};
 
-use basic_solution::{PricedRows, SidedBasis};
+use basic_solution::{CostSource, SidedBasis};
 use table_entries::{Stand, by_sign};
 use whole_sums::{product, short_number};
 
@@ -36,20 +36,20 @@ pub(crate) fn whole_ratio(
     row: usize,
     side: Stand,
     place: usize,
-    priced: &PricedRows<'_>,
+    source: &CostSource<'_>,
 ) -> Option<WholeRatio>
     requires row { row < state.now.tableau.activities }
     requires place { place < state.now.tableau.columns }
     requires some { (table state.now).entry row place ≢ int (pos 0) }
-    requires priced { IfSome priced.now.count (λ n. ArePriced state.now priced.now.rows.now priced.now.numbers.now n) }
-    requires kept { AreKeptCosts state.now priced.now.kept_over priced.now.kept.now }
+    requires priced { IfSome source.now.count (λ n. ArePriced state.now source.now.rows.now source.now.numbers.now n) }
+    requires kept { AreKeptCosts state.now source.now.kept_over source.now.kept.now }
     ensures { IfSome result (λ r. IsWholeRatio state.now row side place r.top r.bottom) }
 {
     let denominator = state.denominator();
     let Some(entry) = state.number_over(row, place, denominator) else {
         return None;
     };
-    let Some(total) = state.cost_total_by(place, denominator, priced) else {
+    let Some(total) = state.cost_total_by(place, denominator, source) else {
         return None;
     };
     let Some(cost) = short_number(total) else {

@@ -13,7 +13,7 @@ use std::alloc::{AllocError, Global};
 use std::marker::Model;
 use std::sync::ledger::Ledger;
 
-/// A running total, and totals that were kept on the way. The memory for those is taken ahead (`new`, `reserve`), so that
+/// A running total, and totals that were kept on the way. The memory for those is taken ahead (`new`), so that
 /// going on takes none. Contracts see `RunningTotals`.
 #[derive(Drop)]
 pub struct Totals {
@@ -156,17 +156,6 @@ impl Totals {
             kept,
             room: self.room,
         })
-    }
-
-    /// Makes room to keep so many. What is kept stays, and after want of memory all stays.
-    pub fn reserve(&mut self, room: usize) -> Result<(), AllocError>
-        requires { self.old.room ≤ room }
-        ensures room { OnOk result (self.new ≡ record { total = self.old.total; kept = self.old.kept; room = room }) }
-        ensures kept { OnErr result (self.new ≡ self.old) }
-    {
-        self.kept.reserve(room - self.kept.len())?;
-        self.room = room;
-        Ok(())
     }
 }
 

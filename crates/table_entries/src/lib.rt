@@ -84,4 +84,4 @@ pub use laws::{
 pub use parts::PartEntries;
 pub use stand::Stand;
 pub use table_entries::short_whole;
-pub use wholes::{Inverse, by_sign};
+pub use wholes::{Inverse, by_sign, exact_quotient};

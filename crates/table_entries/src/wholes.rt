@@ -55,9 +55,9 @@ impl Inverse {
     }
 }
 
-/// The quotient, if the division is exact and it is short.
+/// The quotient, if the division is exact and it is short, where the inverse is that of the divisor. None says nothing of it.
 #[inline(always)]
-fn exact_quotient(number: i128, divisor: i64, inverse: &Inverse) -> Option<i64>
+pub fn exact_quotient(number: i128, divisor: i64, inverse: &Inverse) -> Option<i64>
     requires divisor { IsShort divisor }
     ensures product { IfSome result (λ q. q *ℤ divisor ≡ number) }
     ensures short { IfSome result (λ q. IsShort q) }

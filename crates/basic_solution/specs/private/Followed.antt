@@ -14,9 +14,9 @@ IsFollowed before after factor entry number n = IsShort n → IsShort number × 
 abbrev pub IsFollowedValue : ℤ → ℤ → ℤ → ℚ → ℤ → ℤ → Type 0
 IsFollowedValue before after factor entry number n = IsShort n → (e : ℤ) × ((entry ≡ quotient_of e after) × IsFollowed before after factor e number n)
 
--- the number at k, another one where the exchange is made
+-- the number at an index, another one at that of the exchange
 abbrev pub number_but : ℕ → ℤ → List ℤ → ℕ → ℤ
-number_but at n numbers k = if k == at then n else whole_number_at numbers k
+number_but exchanged other numbers at = if at == exchanged then other else whole_number_at numbers at
 
 -- each number is the mark of one that is not known
 abbrev pub AreUnknown : List ℤ → Type 0

@@ -30,8 +30,8 @@ loop-at-preserved c =
     let entry = whole_number_at entries at in
     let inside : at < length entries = let size = c.in-Some.ensures.size in let own = c.requires.size in omega (arith, less, size, own) in
     let entry_is : to_z w64 (of_z w64 entry) ≡ entry = short_read entry (c.in-Some.ensures.short at inside) in
-    let number_is : to_z w64 (of_z w64 c.other_number.result) ≡ number_but place (pos 0) old at =
-    ap (λ t. to_z w64 (of_z w64 t)) c.other_number.ensures
+    let number_is : to_z w64 (of_z w64 c.number_but.result) ≡ number_but place (pos 0) old at =
+    ap (λ t. to_z w64 (of_z w64 t)) c.number_but.ensures
     ∙ kept_read (number_but place (pos 0) numbers at) (but_kept place (pos 0) numbers at (omega arith) inv.range)
     ∙ ap (λ t. if at == place then pos 0 else t) (inv.rest at (omega arith)) in
     let here : IsFollowed before' after' factor' entry (number_but place (pos 0) old at) n =

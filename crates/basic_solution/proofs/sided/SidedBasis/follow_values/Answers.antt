@@ -53,8 +53,8 @@ loop-at-preserved c =
 pub value_step-requires-clause-stood : goal.value_step-requires-clause-stood
 value_step-requires-clause-stood c = small_again c.in-Some.stood (subst (λ o. IfSome o (λ n. IsSmallNumber n)) c.in-Some.is c.requires.stood)
 
-pub number_but-number-requires-clause-start : goal.number_but-number-requires-clause-start
-number_but-number-requires-clause-start c =
+pub number_but-number-requires-clause-other : goal.number_but-number-requires-clause-other
+number_but-number-requires-clause-other c =
     let start = c.in-Some-value_step.step.start in
     subst IsShortOrMark (sym (kept_read start c.in-Some-value_step.ensures.start_kept)) c.in-Some-value_step.ensures.start_kept
 

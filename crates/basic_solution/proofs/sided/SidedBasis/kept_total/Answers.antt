@@ -46,8 +46,8 @@ returns c =
     let small : IsSmallNumber start = c.in-Some.ensures.small in
     let variable_is = subst (λ t. c.nonbasic.result ≡ (table_of t).nonbasic place) same c.nonbasic.ensures.value in
     let own : place_cost s place ≡ int start = sym (ap (relaxation s).cost variable_is) ∙ ap (λ t. (relaxation t).cost c.nonbasic.result) (sym c.self.view_is) ∙ c.in-Some.ensures.value in
-    let rows = c.args.priced.now.rows.now in
-    let numbers = c.args.priced.now.numbers.now in
+    let rows = c.args.source.now.rows.now in
+    let numbers = c.args.source.now.numbers.now in
     let priced = c.requires.priced in
     let entries = c.in-Some-numbers_over._entries.now in
     let in_columns = c.self.inside.tableau.columns in
@@ -60,11 +60,11 @@ returns c =
     let f_short : IsShort f = short_at entries c.in-Some-numbers_over.ensures.short (r * in_columns + place) in
     let entry_is : (table s).entry r place ≡ quotient_of f d' = subst (λ t. (table_of t).entry r place ≡ quotient_of f d') same (c.in-Some-numbers_over.ensures.value r place row_there place_there column) in
     (f, (whole_number_at numbers j, (term_of_number (row_cost s r) ((table s).entry r place) f (whole_number_at numbers j) d' positive f_short (small_short (whole_number_at numbers j) (priced.small j less)) (priced.costs j less) entry_is, priced.small j less)))) in
-    let number = whole_number_at c.args.priced.now.kept.now place in
+    let number = whole_number_at c.args.source.now.kept.now place in
     let n_is : to_z w64 (of_z w64 number) ≡ number = kept_read number (c.requires.kept.range place) in
     let short : IsShort number = subst IsShort n_is (c.is_short.ensures c.if-not-is_short.false) in
     let total_is : to_z w128 (of_z w128 c.from.result) ≡ number = widened c.from.result _ number c.from.ensures n_is short in
-    let over_is : c.args.priced.now.kept_over ≡ d = let e = c.if-priced-denominator.false in let a = c.requires.kept.denominator_short in let b = c.requires.denominator in omega (arith, ints, e, a, b) in
+    let over_is : c.args.source.now.kept_over ≡ d = let e = c.if-source-denominator.false in let a = c.requires.kept.denominator_short in let b = c.requires.denominator in omega (arith, ints, e, a, b) in
     record {
       margin = subst HasMargin (sym total_is) (short_margin number short);
       fits = priced_fit s sided few place d' positive d_short start small own rows numbers c.args.count priced terms;
