@@ -1,16 +1,24 @@
 -- The numbers of a gap as steps of fractions: a step that has room gives the whole number, and one without tells that it has none.
 use Rattle.std.specs.Prelude.{◌≡◌, ℤ, ◌-ℤ◌, ◌*ℤ◌, neg_ℤ, All}
-use Rattle.std.proofs.Common.{sym, ap, subst, ◌∙◌}
+use Rattle.std.specs.Int.{w128}
+use Rattle.std.proofs.Common.{sym, ap, subst, ◌∙◌, to_z, of_z}
 use Rattle.frac128.specs.Rational.{ℚ, int, ◌-ℚ◌, ◌*ℚ◌, neg_ℚ}
 use Rattle.frac128.specs.RationalRing.{int-*ℤ, int-neg_ℤ}
 use Rattle.frac128.specs.Range.{IsNarrow, Fits, SumFits}
+use Rattle.frac128.proofs.ReadLemmas.{narrow_read}
 use Rattle.frac128.proofs.Whole.{IsNarrow-from_SumFits, SumFits-difference_int, Fits-product_int, IsNarrow-from_product}
 use Rattle.lp_model.specs.Program.{Program}
+use Rattle.lp_model.specs.declared.types.ColId.{ColId}
 use Rattle.inner_models.proofs.GapModels.{int-difference}
 use Rattle.gap_models.specs.declared.gaps.Weights.{Weights}
 use Rattle.gap_models.specs.declared.gaps.Sides.{Sides}
-use Rattle.gap_models.specs.Gaps.{HasWidth, HasTerms, HasSides, FitsGap, IsGapOf}
+use Rattle.gap_models.specs.Gaps.{HasWidth, HasTerms, HasSides, FitsGap, IsGapOf, IsFirstWideColumn}
 use Rattle.gap_models.specs.private.Parts.{IsWeighed, AreSidesOf}
+
+-- ---- a number as it is read
+
+pub narrow_again : (n : ℤ) → IsNarrow n → IsNarrow (to_z w128 (of_z w128 n))
+narrow_again n h = subst IsNarrow (sym (narrow_read n h)) h
 
 -- ---- a difference
 
@@ -52,6 +60,9 @@ module _ (a b i1 i2 : ℤ) (w : Weights) (is : IsWeighed a b w) where
 
   pub terms_of : (N : Program) → All (HasTerms w.a w.b) N.cols → All (HasTerms (int a) (int b)) N.cols
   terms_of N all = subst (λ t. All (HasTerms t (int b)) N.cols) is.first (subst (λ t. All (HasTerms w.a t) N.cols) is.second all)
+
+  pub wide_of : (N : Program) (col : ColId) → IsFirstWideColumn w.a w.b N.cols col → IsFirstWideColumn (int a) (int b) N.cols col
+  wide_of N col wide = subst (λ t. IsFirstWideColumn t (int b) N.cols col) is.first (subst (λ t. IsFirstWideColumn w.a t N.cols col) is.second wide)
 
   pub sides_of : HasSides w.a w.b i1 i2 → HasSides (int a) (int b) i1 i2
   sides_of sides = subst (λ t. HasSides t (int b) i1 i2) is.first (subst (λ t. HasSides w.a t i1 i2) is.second sides)

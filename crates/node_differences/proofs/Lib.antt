@@ -1,3 +1,4 @@
+pub mod RisingSteps
 pub mod OrderLemmas
 pub mod VariableLaws
 pub mod MultiplierLaws

@@ -8,7 +8,10 @@ use Rattle.branch_tree.specs.Preorder.{SplitData}
 use Rattle.branch_tree.specs.declared.node.NodeData.{NodeData}
 use Rattle.node_differences.specs.Told.{node_lists, with_lists, rebuilt_lists, due_behind, at_node, node_before, node_behind, rebuilt}
 use Rattle.node_differences.specs.Above.{node_at_place, lists_at, lists_due, next_lists, rest_lists}
-use Rattle.node_differences.specs.private.Rebuilding.{joined_nodes, Rebuilding}
+use Rattle.node_differences.specs.private.Rebuilding.{joined_nodes, Rebuilding, IsRebuiltAt}
+use Rattle.node_differences.specs.Answers.{AreRebuiltInto}
+use Rattle.node_differences.specs.declared.rebuilding.RebuildFault.{RebuildFault}
+use Rattle.node_differences.specs.declared.rebuilding.RebuildFault.TheVariants.{Idle, Memory}
 use Rattle.node_differences.proofs.TreeLaws.{lists-given, due-same}
 
 -- ---- the splits above the trees that are due
@@ -78,6 +81,11 @@ rebuild-end was now due place past r =
     let none : drop place was ≡ [] = nil_from_length (drop place was) (omega (arith, length-drop place was, long, past)) in
     sym r.whole ∙ ap (λ ns. joined_nodes (take place now) (rebuilt place (lists_due now due) ns)) none
     ∙ ap (λ l. Ok l) (append-nil (take place now) ∙ take_all place now past)
+
+-- a fault at a place is one of all nodes
+pub fault-of-all : (was now : List NodeData) (due : List ℕ) (place : ℕ) (fault : RebuildFault) → IsRebuiltAt was now due place (Err fault) → AreRebuiltInto was now (Err fault)
+fault-of-all was now due place (Idle node change) h = h
+fault-of-all was now due place Memory h = tt
 
 module _ (was now : List NodeData) (due : List ℕ) (place : ℕ) (below : place < length now) (r : Rebuilding was now due place) where
   abbrev n : NodeData

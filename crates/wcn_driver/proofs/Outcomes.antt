@@ -1,9 +1,11 @@
 -- The outcome of a point, with its constants and without them.
 use Rattle.std.specs.Prelude.{◌≡◌, ℤ, ◌+ℤ◌, Ok}
-use Rattle.std.proofs.Common.{sym, subst, ◌∙◌, inr}
+use Rattle.std.specs.Int.{w128}
+use Rattle.std.proofs.Common.{sym, subst, ◌∙◌, inr, to_z, of_z}
 use Rattle.frac128.specs.Rational.{ℚ, int, IsWhole}
 use Rattle.frac128.specs.Range.{IsNarrow, Fits, SumFits}
 use Rattle.frac128.proofs.Integers.{int-num, int_injective}
+use Rattle.frac128.proofs.ReadLemmas.{narrow_read}
 use Rattle.frac128.proofs.Whole.{IsNarrow-from_Fits, SumFits-int, IsNarrow-from_SumFits}
 use Rattle.lp_model.specs.Program.{Program, Point, IsFeasible}
 use Rattle.lp_model.proofs.ModelLaws.{whole_value}
@@ -11,6 +13,11 @@ use Rattle.model_points.specs.Answers.{IsValueAnswer}
 use Rattle.front_sweeps.specs.Steps.{IsBase}
 use Rattle.wcn_driver.specs.Answers.{IsWideOutcome}
 use Rattle.wcn_driver.specs.private.Founds.{IsSummedOutcome}
+
+-- ---- a number as it is read
+
+pub narrow_again : (n : ℤ) → IsNarrow n → IsNarrow (to_z w128 (of_z w128 n))
+narrow_again n h = subst IsNarrow (sym (narrow_read n h)) h
 
 -- ---- a sum with a constant
 

@@ -22,3 +22,12 @@ returns-in-Ok-put_split c = λ was r.
     let put : lists_due new c.put_split.new.due.items ≡ due_behind (node_lists node) (lists_due new above.new.due.items) node =
     c.in-Ok-put_split.ensures.lists new (sym (node-read new place node below is)) in
     rebuild-put was now c.args.due.now.items place c.requires r above.result l new above.new.due.items c.put_split.new.due.items (above.ensures.next now) (above.ensures.rest now) (above.ensures.kept place r.below) c.in-Ok.ensures made node is put (c.in-Ok-put_split.ensures.kept (above.ensures.kept place r.below))
+
+pub lists_of-requires : goal.lists_of-requires
+lists_of-requires c = c.requires
+
+pub returns-in-Err-Memory : goal.returns-in-Err-Memory
+returns-in-Err-Memory c = λ was r. tt
+
+pub returns-in-Err : goal.returns-in-Err
+returns-in-Err c = λ was r. tt

@@ -1,7 +1,7 @@
 use Rattle.std.specs.Prelude.{◌∷◌}
 use Rattle.std.proofs.Common.{refl, arith, inl, inr}
 use Rattle.wcn_driver.proofs.Between.{place_within, read_gap, gap_with_results, gap_ready, gap_ended, closed}
-use Rattle.wcn_driver.proofs.Ended.{end_before}
+use Rattle.wcn_driver.proofs.Ended.{end_before, stays_before}
 use Rattle.wcn_driver.proofs.driving.turn.Goals as goal
 
 pub index-requires : goal.index-requires
@@ -87,3 +87,76 @@ pub returns-in-Err-take_in-clause-end : goal.returns-in-Err-take_in-clause-end
 returns-in-Err-take_in-clause-end g c =
     end_before (g.S.Solver.stops c.look_into.new.solver) (g.S.Solver.stops c.args.solver.now) c.in-Ok-Holds.ensures.kept.steady c.args.task.now c.take_in.new.sweep.found.items
     c.in-Err-take_in.end.part c.in-Err-take_in.end.halt c.in-Err-take_in.ensures.end
+
+pub look_into-requires-clause-old : goal.look_into-requires-clause-old
+look_into-requires-clause-old g c = c.requires.old
+
+pub look_into-requires-clause-task : goal.look_into-requires-clause-task
+look_into-requires-clause-task g c = c.requires.task
+
+pub look_into-requires-clause-before : goal.look_into-requires-clause-before
+look_into-requires-clause-before g c = let (before, behind, (p, q, (b, at))) = c.requires.between in b.within
+
+pub take_in-requires-clause-old : goal.take_in-requires-clause-old
+take_in-requires-clause-old g c = c.in-Ok-Holds.ensures.kept.recosted
+
+pub take_in-requires-clause-task : goal.take_in-requires-clause-task
+take_in-requires-clause-task g c = c.requires.task
+
+pub take_in-requires-clause-held : goal.take_in-requires-clause-held
+take_in-requires-clause-held g c =
+    let held = rw c.in-Ok-Holds.field-0-is at c.in-Ok-Holds.ensures.found in
+    held.0
+
+pub returns-in-Err-clause-kept : goal.returns-in-Err-clause-kept
+returns-in-Err-clause-kept g c = tt
+
+pub returns-in-Err-clause-halted : goal.returns-in-Err-clause-halted
+returns-in-Err-clause-halted g c = c.in-Err.ensures.halted
+
+pub returns-in-Err-clause-turned : goal.returns-in-Err-clause-turned
+returns-in-Err-clause-turned g c = λ before behind p q b at. tt
+
+pub returns-in_default-clause-kept : goal.returns-in_default-clause-kept
+returns-in_default-clause-kept g c = tt
+
+pub returns-in_default-clause-halted : goal.returns-in_default-clause-halted
+returns-in_default-clause-halted g c = tt
+
+pub returns-in_default-clause-turned : goal.returns-in_default-clause-turned
+returns-in_default-clause-turned g c = λ before behind p q b at. tt
+
+pub returns-in_default-clause-end : goal.returns-in_default-clause-end
+returns-in_default-clause-end g c = tt
+
+pub returns-in-Ok-clause-kept : goal.returns-in-Ok-clause-kept
+returns-in-Ok-clause-kept g c = c.in-Ok-Empty.ensures.kept
+
+pub returns-in-Ok-clause-halted : goal.returns-in-Ok-clause-halted
+returns-in-Ok-clause-halted g c = tt
+
+pub returns-in-Ok-clause-end : goal.returns-in-Ok-clause-end
+returns-in-Ok-clause-end g c = tt
+
+pub returns-in-Ok-take_in-clause-kept : goal.returns-in-Ok-take_in-clause-kept
+returns-in-Ok-take_in-clause-kept g c = record {
+  recosted = c.in-Ok-take_in.ensures.kept.recosted;
+  steady = λ M n answer stop. c.in-Ok-Holds.ensures.kept.steady M n answer (c.in-Ok-take_in.ensures.kept.steady M n answer stop);
+}
+
+pub returns-in-Ok-take_in-clause-halted : goal.returns-in-Ok-take_in-clause-halted
+returns-in-Ok-take_in-clause-halted g c = tt
+
+pub returns-in-Ok-take_in-clause-end : goal.returns-in-Ok-take_in-clause-end
+returns-in-Ok-take_in-clause-end g c = tt
+
+pub returns-in-Err-take_in-clause-kept : goal.returns-in-Err-take_in-clause-kept
+returns-in-Err-take_in-clause-kept g c = tt
+
+pub returns-in-Err-take_in-clause-halted : goal.returns-in-Err-take_in-clause-halted
+returns-in-Err-take_in-clause-halted g c =
+    stays_before c.args.task.now.base (g.S.Solver.program c.take_in.new.solver) (g.S.Solver.stops c.take_in.new.solver) (g.S.Solver.stops c.look_into.new.solver) (g.S.Solver.stops c.args.solver.now)
+    c.in-Ok-Holds.ensures.kept.steady c.in-Err-take_in.end.halt c.in-Err-take_in.ensures.halted
+
+pub returns-in-Err-take_in-clause-turned : goal.returns-in-Err-take_in-clause-turned
+returns-in-Err-take_in-clause-turned g c = λ before behind p q b at. tt

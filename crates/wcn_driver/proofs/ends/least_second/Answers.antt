@@ -1,4 +1,5 @@
 use Rattle.std.specs.Prelude.{pos}
+use Rattle.std.proofs.Common.{refl}
 use Rattle.inner_models.specs.Inner.{least2_model}
 use Rattle.wcn_driver.specs.declared.answers.Part.TheVariants.{Least2}
 use Rattle.wcn_driver.specs.private.Kept.{Stays}
@@ -36,3 +37,51 @@ returns-in-Err-clause-halt g c =
     let e = c.args.task.now in
     (halt_of (g.S.Solver.stops c.args.solver.now) e.base e.nodes c.args.before e.constant1 e.constant2 (pos 0) (pos 0) Least2 c.in-Ok.solved c.in-Ok.ensures.solved c.requires.before
     c.in-Err.halt c.in-Err.ensures)
+
+pub solve_least2-requires : goal.solve_least2-requires
+solve_least2-requires g c = c.requires.old
+
+pub returns-in_default-clause-kept : goal.returns-in_default-clause-kept
+returns-in_default-clause-kept g c = tt
+
+pub returns-in_default-clause-halted : goal.returns-in_default-clause-halted
+returns-in_default-clause-halted g c = tt
+
+pub returns-in_default-clause-found : goal.returns-in_default-clause-found
+returns-in_default-clause-found g c = tt
+
+pub returns-in_default-clause-halt : goal.returns-in_default-clause-halt
+returns-in_default-clause-halt g c = tt
+
+pub returns-in-Err-clause-kept : goal.returns-in-Err-clause-kept
+returns-in-Err-clause-kept g c = tt
+
+pub returns-in-Err-clause-found : goal.returns-in-Err-clause-found
+returns-in-Err-clause-found g c = tt
+
+pub returns-in-Some-clause-kept : goal.returns-in-Some-clause-kept
+returns-in-Some-clause-kept g c = record { recosted = c.in-Ok.ensures.kept; steady = c.in-Ok.ensures.steady }
+
+pub returns-in-Some-clause-halted : goal.returns-in-Some-clause-halted
+returns-in-Some-clause-halted g c = tt
+
+pub returns-in-Some-clause-found : goal.returns-in-Some-clause-found
+returns-in-Some-clause-found g c = c.in-Some.ensures
+
+pub returns-in-Some-clause-halt : goal.returns-in-Some-clause-halt
+returns-in-Some-clause-halt g c = tt
+
+pub returns-in-None-clause-kept : goal.returns-in-None-clause-kept
+returns-in-None-clause-kept g c = tt
+
+pub returns-in-None-clause-halted : goal.returns-in-None-clause-halted
+returns-in-None-clause-halted g c = record { recosted = c.in-Ok.ensures.kept; steady = c.in-Ok.ensures.steady }
+
+pub returns-in-None-clause-found : goal.returns-in-None-clause-found
+returns-in-None-clause-found g c = tt
+
+pub returns-in-None-clause-halt : goal.returns-in-None-clause-halt
+returns-in-None-clause-halt g c =
+    let e = c.args.task.now in
+    let o = optimum_of (g.S.Solver.stops c.args.solver.now) (least2_model e.base) e.nodes c.args.before c.in-Ok.solved c.in-Ok.ensures.solved c.requires.before c.in-Ok-settle.optimum c.in-Ok-settle.ensures in
+    (refl, (c.in-Ok-settle.optimum.point, (o.optimum, c.in-None.ensures)))

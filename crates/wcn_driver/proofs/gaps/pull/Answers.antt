@@ -77,3 +77,48 @@ returns-in-Ok-solved-clause-halt g c = λ i1 i2.
     (pull_halts (g.S.Solver.stops c.args.solver.now) e c.requires.task.base c.args.before c.in-Ok-solved.solved c.requires.before r some.0 some.1.0 some.1.1
     (c.in-Ok-solved.ensures.solved r.f1 r.f2 most1 most2) c.in-Ok.ensures.fit i1 i2)
     c.settled_found.ensures.halt
+
+pub solve_pull-solved-requires-clause-old : goal.solve_pull-solved-requires-clause-old
+solve_pull-solved-requires-clause-old g c = c.requires.old
+
+pub solve_pull-solved-requires-clause-wide : goal.solve_pull-solved-requires-clause-wide
+solve_pull-solved-requires-clause-wide g c = c.requires.task.base.bare.wide
+
+pub solve_pull-solved-requires-clause-room : goal.solve_pull-solved-requires-clause-room
+solve_pull-solved-requires-clause-room g c = c.requires.task.room
+
+pub settled_found-requires-clause-task : goal.settled_found-requires-clause-task
+settled_found-requires-clause-task g c = c.requires.task
+
+pub returns-in-Err-Wide-clause-kept : goal.returns-in-Err-Wide-clause-kept
+returns-in-Err-Wide-clause-kept g c = tt
+
+pub returns-in-Err-Wide-clause-halted : goal.returns-in-Err-Wide-clause-halted
+returns-in-Err-Wide-clause-halted g c = record { recosted = c.requires.old; steady = λ M n answer stop. stop }
+
+pub returns-in-Err-Wide-clause-found : goal.returns-in-Err-Wide-clause-found
+returns-in-Err-Wide-clause-found g c = tt
+
+pub returns-in-Err-Memory-clause-kept : goal.returns-in-Err-Memory-clause-kept
+returns-in-Err-Memory-clause-kept g c = tt
+
+pub returns-in-Err-Memory-clause-halted : goal.returns-in-Err-Memory-clause-halted
+returns-in-Err-Memory-clause-halted g c = tt
+
+pub returns-in-Err-Memory-clause-found : goal.returns-in-Err-Memory-clause-found
+returns-in-Err-Memory-clause-found g c = tt
+
+pub returns-in-Err-Memory-clause-halt : goal.returns-in-Err-Memory-clause-halt
+returns-in-Err-Memory-clause-halt g c = λ i1 i2. tt
+
+pub returns-in-Err-clause-kept : goal.returns-in-Err-clause-kept
+returns-in-Err-clause-kept g c = tt
+
+pub returns-in-Err-clause-halted : goal.returns-in-Err-clause-halted
+returns-in-Err-clause-halted g c = tt
+
+pub returns-in-Err-clause-found : goal.returns-in-Err-clause-found
+returns-in-Err-clause-found g c = tt
+
+pub returns-in-Err-clause-halt : goal.returns-in-Err-clause-halt
+returns-in-Err-clause-halt g c = λ i1 i2. tt
