@@ -1,5 +1,5 @@
 #!/usr/bin/env python3
-"""Rows of sweeps of a front, part by part: crates/front_rows/data.
+"""Rows of sweeps of a front, part by part: crates/worked_rows/data/fronts.
 
     python3 bench/fronts/scripted_sweeps.py FOLDER
 

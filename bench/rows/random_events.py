@@ -1,9 +1,9 @@
 #!/usr/bin/env python3
-"""Writes rows of random events on managers of small searches, for `crates/manager_rows`.
+"""Writes rows of random events on managers of small searches, for `crates/worked_rows`.
 
-    python3 bench/rows/random_events.py COUNT SEED > crates/manager_rows/data/random-events.rows
+    python3 bench/rows/random_events.py COUNT SEED > crates/worked_rows/data/managers/random-events.rows
 
-and the line `ok random-events.rows: NAME` of each goes into `crates/manager_rows/stdout`. `bench/events` tries many more.
+and the line `ok managers/random-events.rows: NAME` of each goes into `crates/worked_rows/stdout`. `bench/events` tries many more.
 
 It shares nothing with the solver. The search is that of `random_edits.py` beside it, which is kept through edits; what workers hold, and how results are taken that come in any
 order, stands here as docs/TREE_ROWS.md says. Leaves are handed out, worked, and worked for by workers that do not hold them; results come late, twice, and

@@ -1,9 +1,9 @@
 #!/usr/bin/env python3
-"""Writes rows of random relaxations with their exact optima, for `crates/relaxation_rows`.
+"""Writes rows of random relaxations with their exact optima, for `crates/worked_rows`.
 
-    python3 bench/rows/random_relaxations.py COUNT SEED > crates/relaxation_rows/data/random.rows
+    python3 bench/rows/random_relaxations.py COUNT SEED > crates/worked_rows/data/relaxations/random.rows
 
-and the line `ok random.rows: NAME` of each goes into `crates/relaxation_rows/stdout`. Another COUNT or SEED gives other rows.
+and the line `ok relaxations/random.rows: NAME` of each goes into `crates/worked_rows/stdout`. Another COUNT or SEED gives other rows.
 
 It shares nothing with the solver. A least value is found by plain enumeration: of all columns and row sums it tries each
 choice of as many as there are columns, lets each of these be its low side, its high side, or 0 where it has none, solves

@@ -24,6 +24,13 @@ pub trait Stage: Drop + Sized {
     fn end(&self) -> Result<&str>;
 }
 
+/// Which stage a file's rows run on: that of the folder of the data folder that the file lies in.
+pub trait Stages {
+    /// Runs the rows of a file of a folder by `run_file`, on the folder's stage: how many differ. It is an error where the
+    /// folder has no stage.
+    fn run_in(rt: &HostRuntime, folder: &str, file: &str) -> Result<u64>;
+}
+
 /// Whether a line is one of a text.
 fn is_text(line: &Line) -> bool {
     line.text.starts_with('|') || line.text.starts_with('/')
@@ -244,9 +251,10 @@ fn run_lines<S: Stage>(rt: &HostRuntime, file: &str, lines: &[Line]) -> Result<u
     Ok(differing)
 }
 
-/// Runs the rows of a file: how many differ. What stands above the first line `row NAME` is read at the head of each row,
-/// and a file with no such line is one row.
-fn run_file<S: Stage>(rt: &HostRuntime, file: &str) -> Result<u64> {
+/// Runs the rows of a file, each on a stage of its own: how many differ. What stands above the first line `row NAME` is read
+/// at the head of each row, and a file with no such line is one row. A row that is answered as it wants prints `ok` and its
+/// name, another `differs`, its name and its report. It is an error where the file says no rows.
+pub fn run_file<S: Stage>(rt: &HostRuntime, file: &str) -> Result<u64> {
     let lines = lines_in_file(rt, file)?;
     let differing = run_lines::<S>(rt, file, &lines);
     drop(lines);
@@ -254,16 +262,17 @@ fn run_file<S: Stage>(rt: &HostRuntime, file: &str) -> Result<u64> {
 }
 
 /// Runs the rows of the file that a line names, if it names one: how many differ.
-fn run_named_file<S: Stage>(rt: &HostRuntime, line: &str) -> Result<u64> {
+fn run_named_file<S: Stages>(rt: &HostRuntime, line: &str) -> Result<u64> {
     let file = line.trim();
     if file.is_empty() || file.starts_with('#') {
         return Ok(0);
     }
-    run_file::<S>(rt, file).context(format_args!("{file}"))
+    let (folder, _) = file.split_once('/').unwrap_or(("", file));
+    S::run_in(rt, folder, file).context(format_args!("{file}"))
 }
 
 /// Runs the rows of each file that standard input names: how many differ.
-fn run_files<S: Stage>(rt: &HostRuntime) -> Result<u64> {
+fn run_files<S: Stages>(rt: &HostRuntime) -> Result<u64> {
     let mut differing = 0u64;
     for line in rt.lines(rt.alloc()) {
         let line = line?;
@@ -274,10 +283,9 @@ fn run_files<S: Stage>(rt: &HostRuntime) -> Result<u64> {
     Ok(differing)
 }
 
-/// Runs the rows of the files that standard input names, one a line, each on a stage of its own. A row that is answered as
-/// it wants prints `ok` and its name, another `differs`, its name and its report. The status is 0 where no row differs, 1
-/// where one does, and 2 where a file says no rows, with its fault in the last line.
-pub fn run_rows<S: Stage>(rt: &HostRuntime) -> ExitCode {
+/// Runs the rows of the files that standard input names, one a line as `FOLDER/FILE`. The status is 0 where no row differs, 1
+/// where one does, and 2 where a file says no rows or its folder has no stage, with that fault in the last line.
+pub fn run_rows<S: Stages>(rt: &HostRuntime) -> ExitCode {
     match run_files::<S>(rt) {
         Ok(0) => ExitCode::SUCCESS,
         Ok(_) => ExitCode::from(1),

@@ -1,10 +1,13 @@
 //! Worked rows: plain files that say what something is asked and what it is to answer, whatever it is about.
 //!
-//! A test program over rows is a `Stage`, which does what a row's headings say, and a `main` that hands it to `run_rows`.
-//! Where the subject answers commands, one line each, it is a `Subject` alone, and `Dialogue` of it is the stage:
+//! A `Stage` does what a row's headings say. Where the subject answers commands, one line each, it is a `Subject` alone, and
+//! `Dialogue` of it is the stage. `Stages` says which one runs the files of a folder, and a program hands it to `run_rows`:
 //!
-//!     fn main(rt: HostRuntime) -> ExitCode {
-//!         row_texts::run_rows::<Dialogue<Models>>(&rt)
+//!     fn run_in(rt: &HostRuntime, folder: &str, file: &str) -> Result<u64> {
+//!         match folder {
+//!             "models" => run_file::<Dialogue<Models>>(rt, file),
+//!             _ => bail!("no stage has this folder"),
+//!         }
 //!     }
 //!
 //! `docs/ROWS.md` tells the form of the files. `lines` reads one: comments go, and what stands between `each` and `done` is
@@ -22,7 +25,7 @@ mod numbers;
 mod texts;
 
 pub use dialogue::{Dialogue, Subject};
-pub use driver::{Stage, run_rows};
+pub use driver::{Stage, Stages, run_file, run_rows};
 pub use lines::{Line, expanded};
 pub use numbers::number_of;
 pub use texts::{bytes_of, compare, lines_of, met};

@@ -15,11 +15,23 @@
 mod stage;
 
 use crate::stage::ScriptStage;
-use row_texts::run_rows;
+use anyhow::Result;
+use row_texts::{Stages, run_file, run_rows};
 use std::process::ExitCode;
 
+/// All files have rows of scripts.
+struct Scripts;
+
+impl Stages for Scripts {
+    fn run_in(rt: &HostRuntime, _folder: &str, file: &str) -> Result<u64> {
+        run_file::<ScriptStage>(rt, file)
+    }
+}
+
 fn main(rt: HostRuntime) -> ExitCode {
-    // a row that differs is in what is printed
-    let _ = run_rows::<ScriptStage>(&rt);
+    let rows = run_rows::<Scripts>(&rt);
+    if rows != ExitCode::SUCCESS {
+        return rows;
+    }
     sym_shell::run_program(&rt)
 }

@@ -11,9 +11,4 @@ mod questions;
 mod sums;
 mod words;
 
-use crate::questions::Questions;
-use std::process::ExitCode;
-
-fn main(rt: HostRuntime) -> ExitCode {
-    row_texts::run_rows::<Questions>(&rt)
-}
+pub use questions::Questions;

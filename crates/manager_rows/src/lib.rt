@@ -4,7 +4,7 @@
 //! A row's lines are calls, each with its answer behind ` -> `, and `ok` where none is written. They are made on the manager that the row has
 //! begun. `docs/TREE_ROWS.md` tells each call.
 //!
-//! The proof says that the program is safe and ends, whatever the files are. What the calls are to answer comes from outside.
+//! The proof says that it is safe and ends, whatever the files are. What the calls are to answer comes from outside.
 #![tactic(auto)]
 
 mod begun;
@@ -12,8 +12,6 @@ mod managers;
 
 use crate::begun::Begun;
 use model_calls::Calls;
-use std::process::ExitCode;
 
-fn main(rt: HostRuntime) -> ExitCode {
-    row_texts::run_rows::<Calls<Begun>>(&rt)
-}
+/// What runs these rows.
+pub type ManagerStage = Calls<Begun>;

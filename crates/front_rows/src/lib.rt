@@ -17,7 +17,7 @@
 //! certificate for the model as it then stands, and else tells want of memory. So a sweep that goes by other inner models than the row has in
 //! mind is told at once.
 //!
-//! `docs/ROWS.md` tells the form of rows, and what is answered. The proof says that the solvers keep the law of their trait, and that the program is
+//! `docs/ROWS.md` tells the form of rows, and what is answered. The proof says that the solvers keep the law of their trait, and that it is
 //! safe and ends whatever the files are. What a sweep is to answer comes from outside.
 #![tactic(auto)]
 
@@ -29,9 +29,4 @@ mod steps;
 mod stopping;
 mod sweeps;
 
-use crate::stage::FrontStage;
-use std::process::ExitCode;
-
-fn main(rt: HostRuntime) -> ExitCode {
-    row_texts::run_rows::<FrontStage>(&rt)
-}
+pub use stage::FrontStage;

@@ -5,7 +5,7 @@
 //! the model, the tree or the search that the row has begun. `docs/TREE_ROWS.md` tells each call; `row_texts` reads the files, and
 //! `model_texts` the models and the lists.
 //!
-//! The proof says that the program is safe and ends, whatever the files are. What the calls are to answer comes from outside.
+//! The proof says that it is safe and ends, whatever the files are. What the calls are to answer comes from outside.
 #![tactic(auto)]
 
 mod begun;
@@ -17,8 +17,6 @@ mod trees;
 
 use crate::begun::Begun;
 use model_calls::Calls;
-use std::process::ExitCode;
 
-fn main(rt: HostRuntime) -> ExitCode {
-    row_texts::run_rows::<Calls<Begun>>(&rt)
-}
+/// What runs these rows.
+pub type TreeStage = Calls<Begun>;

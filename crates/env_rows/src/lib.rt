@@ -3,7 +3,7 @@
 //! A row's lines are calls, each with its answer behind ` -> `, and `ok` where none is written. They are made from above.
 //! `docs/ROWS.md` tells each call; `row_texts` reads the files, and `model_texts` the models.
 //!
-//! The proof says that the program is safe and ends, whatever the files are. What the calls are to answer comes from outside.
+//! The proof says that it is safe and ends, whatever the files are. What the calls are to answer comes from outside.
 #![tactic(auto)]
 
 mod answers;
@@ -11,8 +11,6 @@ mod environment;
 
 use crate::environment::Environment;
 use model_calls::Calls;
-use std::process::ExitCode;
 
-fn main(rt: HostRuntime) -> ExitCode {
-    row_texts::run_rows::<Calls<Environment>>(&rt)
-}
+/// What runs these rows.
+pub type EnvironmentStage = Calls<Environment>;

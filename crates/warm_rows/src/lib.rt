@@ -1,9 +1,8 @@
 //! Worked rows of warm files: what a text states, or its first fault.
 //!
-//! Standard input names the files of rows, one a line. A row gives the bytes of a warm file. `warm_file::read` reads them;
+//! A row gives the bytes of a warm file. `warm_file::read` reads them;
 //! what it reads is written by `warm_writer::write`, and that text is read and written once more. A row wants the text that
-//! is written both times, or the place and the code of the first fault. A row that is answered as it wants prints `ok` and
-//! its name, another `differs` and the two texts.
+//! is written both times, or the place and the code of the first fault.
 //!
 //! ```text
 //! text                          and a text: the bytes of a warm file
@@ -20,9 +19,4 @@
 
 mod stage;
 
-use crate::stage::WarmStage;
-use std::process::ExitCode;
-
-fn main(rt: HostRuntime) -> ExitCode {
-    row_texts::run_rows::<WarmStage>(&rt)
-}
+pub use stage::WarmStage;

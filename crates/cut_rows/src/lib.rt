@@ -1,8 +1,8 @@
 //! Worked rows of cover cuts: what derives, what is found, and what the cuts do to the numbers of a leaf.
 //!
-//! Standard input names the files of rows, one a line. A row says a model, derivations and a pool, and behind `->` what
-//! `valid`, `cut_row`, `CutPool`, `separate`, `lag` and `farkas` are to answer. A row that is answered as it wants prints
-//! `ok` and its name, another `differs` and each answer that is not as wanted.
+//! A row says a model, derivations and a pool, and behind `->` what
+//! `valid`, `cut_row`, `CutPool`, `separate`, `lag` and `farkas` are to answer. Of a row that is not
+//! answered as it wants each such answer is told.
 //!
 //! ```text
 //! model                         and a text: another model, said by lines (`model_texts`). The pool stays as it is
@@ -29,9 +29,4 @@ mod answers;
 mod derivations;
 mod stage;
 
-use crate::stage::CutStage;
-use std::process::ExitCode;
-
-fn main(rt: HostRuntime) -> ExitCode {
-    row_texts::run_rows::<CutStage>(&rt)
-}
+pub use stage::CutStage;

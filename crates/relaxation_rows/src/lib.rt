@@ -1,7 +1,7 @@
 //! Worked rows of relaxations: what the table of a basis, the dual simplex method, the ray phase and the work on a leaf are to
 //! answer of models that the rows say.
 //!
-//! Standard input names the files of rows. A row's script says a model by lines (`model_texts`), what its relaxation is taken
+//! A row's script says a model by lines (`model_texts`), what its relaxation is taken
 //! of, and what is asked; its replies say what is to be answered. `docs/RELAXATION_ROWS.md` tells the commands.
 //!
 //! An answer is judged by its own meaning before it is printed: the value of a point is computed from the point, which is to
@@ -23,9 +23,7 @@ mod steps;
 mod tables;
 
 use crate::commands::Relaxations;
-use row_texts::{Dialogue, run_rows};
-use std::process::ExitCode;
+use row_texts::Dialogue;
 
-fn main(rt: HostRuntime) -> ExitCode {
-    run_rows::<Dialogue<Relaxations>>(&rt)
-}
+/// What runs these rows.
+pub type RelaxationStage = Dialogue<Relaxations>;
