@@ -1,8 +1,7 @@
 //! Worked rows of cover cuts: what derives, what is found, and what the cuts do to the numbers of a leaf.
 //!
-//! A row says a model, derivations and a pool, and behind `->` what
-//! `valid`, `cut_row`, `CutPool`, `separate`, `lag` and `farkas` are to answer. Of a row that is not
-//! answered as it wants each such answer is told.
+//! A row says a model, derivations and a pool, and behind `->` what `valid`, `cut_row`, `CutPool`, `separate`, `lag` and `farkas` are to
+//! answer. Each answer of a row that is not as wanted is told.
 //!
 //! ```text
 //! model                         and a text: another model, said by lines (`model_texts`). The pool stays as it is

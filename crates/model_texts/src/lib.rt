@@ -15,7 +15,7 @@
 //! (`writing`). A column or row that is not in the model is `column#7` or `row#7`, and a cut is `cut#7`, by its place from 0.
 //!
 //! Nothing is assumed of a text: what is wrong with it is told with the line. Below stand `lp_model` and `frac128`; above,
-//! the programs of rows. The proof says that the calls are safe and end; what a line means is seen by what rows print.
+//! the crates of rows. The proof says that the calls are safe and end; what a line means is seen by what rows print.
 #![tactic(auto)]
 
 mod edits;

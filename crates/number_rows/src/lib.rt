@@ -1,4 +1,4 @@
-//! Worked rows of numbers: what the calls of `frac128` and `checked_sum` are to answer.
+//! Worked rows of numbers: what the calls of `frac128`, `checked_sum` and `frac_text` are to answer.
 //!
 //! Each heading of a row is one question and its answer, as `1/3 + 1/6 -> 1/2`, `floor -7/2 -> -4` or `parse 1e400 -> wide`.
 //! `questions` splits one off and compares, `fractions` and `sums` ask the calls, and `words` reads numbers and writes them.

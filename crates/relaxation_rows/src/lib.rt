@@ -1,8 +1,8 @@
 //! Worked rows of relaxations: what the table of a basis, the dual simplex method, the ray phase and the work on a leaf are to
 //! answer of models that the rows say.
 //!
-//! A row's script says a model by lines (`model_texts`), what its relaxation is taken
-//! of, and what is asked; its replies say what is to be answered. `docs/RELAXATION_ROWS.md` tells the commands.
+//! A row's script says a model by lines (`model_texts`), what its relaxation is taken of, and what is asked; its replies say what is to
+//! be answered. `docs/RELAXATION_ROWS.md` tells the commands.
 //!
 //! An answer is judged by its own meaning before it is printed: the value of a point is computed from the point, which is to
 //! be within all sides; the number of an optimum's multipliers is to be that value; and Farkas multipliers are to have a

@@ -26,8 +26,8 @@ pub trait Stage: Drop + Sized {
 
 /// Which stage a file's rows run on: that of the folder of the data folder that the file lies in.
 pub trait Stages {
-    /// Runs the rows of a file of a folder by `run_file`, on the folder's stage: how many differ. It is an error where the
-    /// folder has no stage.
+    /// Runs the rows of a file by `run_file`, on the stage of its folder, which is empty where the file lies in none: how many
+    /// differ. It is an error where the folder has no stage.
     fn run_in(rt: &HostRuntime, folder: &str, file: &str) -> Result<u64>;
 }
 
@@ -283,8 +283,8 @@ fn run_files<S: Stages>(rt: &HostRuntime) -> Result<u64> {
     Ok(differing)
 }
 
-/// Runs the rows of the files that standard input names, one a line as `FOLDER/FILE`. The status is 0 where no row differs, 1
-/// where one does, and 2 where a file says no rows or its folder has no stage, with that fault in the last line.
+/// Runs the rows of the files that standard input names, one a line as `FOLDER/FILE`, or as `FILE` where it lies in no folder. The status
+/// is 0 where no row differs, 1 where one does, and 2 where a file says no rows or its folder has no stage, with that fault in the last line.
 pub fn run_rows<S: Stages>(rt: &HostRuntime) -> ExitCode {
     match run_files::<S>(rt) {
         Ok(0) => ExitCode::SUCCESS,

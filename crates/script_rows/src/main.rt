@@ -7,7 +7,7 @@
 //! The proof of this crate says that it is safe and ends whatever the files are, and nothing of what they want: that comes
 //! from outside, and never from the shell's own answers.
 //!
-//! Behind the rows it is the program itself, by the words that it was called with. The words of its stored run are refused:
+//! Where no row differs it is then the program itself, by the words that it was called with. The words of its stored run are refused:
 //! it prints the usage line and ends with status 2, where the stored run of `sym_main` ends with 0. So a `run_program` that
 //! always ended with one status fails the gate. No clause can say that: none speaks of what the system gets.
 #![tactic(auto)]

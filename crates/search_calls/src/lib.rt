@@ -1,9 +1,9 @@
-//! The calls of a search in words, for programs that run worked rows: the results that are placed, and what stands afterwards.
+//! The calls of a search in words, for crates of worked rows: the results that are placed, and what stands afterwards.
 //!
 //! `place ID close multipliers A 1`, `stands`, `leaf 3` and others are told in `docs/TREE_ROWS.md`.
 //!
 //! It serves test programs alone. Its proof says that it is safe and ends. Below stand the words of calls (`model_calls`) and searches
-//! (`tree_edit`); above, the programs whose rows have a search or a manager of its workers.
+//! (`tree_edit`); above, the crates whose rows have a search or a manager of its workers.
 #![tactic(auto)]
 
 mod lists;

@@ -1,8 +1,7 @@
 //! Worked rows of warm files: what a text states, or its first fault.
 //!
-//! A row gives the bytes of a warm file. `warm_file::read` reads them;
-//! what it reads is written by `warm_writer::write`, and that text is read and written once more. A row wants the text that
-//! is written both times, or the place and the code of the first fault.
+//! A row gives the bytes of a warm file. `warm_file::read` reads them; what it reads is written by `warm_writer::write`, and that text
+//! is read and written once more. A row wants the text that is written both times, or the place and the code of the first fault.
 //!
 //! ```text
 //! text                          and a text: the bytes of a warm file
