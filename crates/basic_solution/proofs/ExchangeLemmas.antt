@@ -11,7 +11,7 @@ use Rattle.table_entries.specs.Relaxation.{Relaxation, Table, Agree, reduced_cos
 use Rattle.table_entries.specs.States.{Separates}
 use Rattle.table_entries.specs.Bases.{IsTableOf}
 use Rattle.table_entries.proofs.OneTable.{IsTableOf-after}
-use Rattle.basic_solution.specs.Held.{Held, HasShape, IsSided, IsLawfulHeld, relaxation, parts, state, table, variables}
+use Rattle.basic_solution.specs.Held.{Held, HasShape, IsSided, IsLawfulHeld, relaxation, parts, table, variables}
 use Rattle.basic_solution.specs.Exchanges.{IsMove}
 
 module _ (p : Relaxation) (c : ℕ → ℚ) (d e : Table) (a : Agree p.columns p.activities e d) (k : ℕ) (k_within : k < p.columns) where

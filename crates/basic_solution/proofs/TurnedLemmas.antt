@@ -1,11 +1,11 @@
 -- A sum whose factors and numbers change places, up to where one of them is 0 from then on.
-use Rattle.std.specs.Prelude.{◌≡◌, ℕ, ◌+◌, ◌-◌, ◌<◌, ◌≤◌, pos, Result, Ok, Err}
+use Rattle.std.specs.Prelude.{◌≡◌, ℕ, ◌+◌, ◌-◌, ◌≤◌, pos, Result, Ok, Err}
 use Rattle.std.proofs.Common.{sym, ap, subst, ◌∙◌, ⊎_elim, inl, inr, arith}
 use Rattle.std.proofs.lemmas.Bool.{cases_lt}
 use Rattle.frac128.specs.Rational.{ℚ, int, ◌+ℚ◌, ◌*ℚ◌}
 use Rattle.frac128.specs.RationalRing.{*ℚ_comm}
 use Rattle.frac128.specs.Range.{Fits, SumFits}
-use Rattle.checked_sum.specs.Steps.{StepFits, StepFitsAt, AllFit, IsFirstWide, IsCheckedSum, partial}
+use Rattle.checked_sum.specs.Steps.{StepFits, StepFitsAt, IsCheckedSum, partial}
 use Rattle.checked_sum.proofs.SumLaws.{sum_below-same}
 use Rattle.basic_solution.proofs.RowTotalLemmas.{free_value}
 

@@ -1,5 +1,5 @@
 -- The values of basic cuts times the denominator of the table: by their terms, and by the numbers of the columns times it.
-use Rattle.std.specs.Prelude.{◌≡◌, ℕ, ◌*◌, ◌<◌, ◌≤◌, ℤ, pos, ◌<ℤ◌, List, length}
+use Rattle.std.specs.Prelude.{◌≡◌, ℕ, ◌<◌, ◌≤◌, ℤ, pos, ◌<ℤ◌, List, length}
 use Rattle.frac128.specs.LowestTerms.{quotient_of}
 use Rattle.table_entries.specs.Relaxation.{point}
 use Rattle.table_entries.specs.WholeSteps.{IsShort, whole_number_at}

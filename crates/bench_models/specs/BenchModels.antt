@@ -2,7 +2,7 @@
 --     column C1, C2, ..     integer from 0 to 1, its cost -(1 + w mod 20), one word each, in order
 --     row R1, R2, ..        at most half the sum of its row_coefficients, rounded down; for each column, in order, the coefficient w mod 10
 -- The words of the columns come first, then those of the rows, one row after the other.
-use Rattle.std.specs.Prelude.{ℕ, zero, suc, ◌+◌, ◌/◌, ◌%◌, Bool, true, false, List, [], ◌∷◌, ◌++◌, codes, decimal, pos, neg_ℤ, Option, Some, None}
+use Rattle.std.specs.Prelude.{ℕ, zero, suc, ◌+◌, ◌/◌, ◌%◌, true, false, List, [], ◌∷◌, ◌++◌, codes, decimal, pos, neg_ℤ, Some, None}
 use Rattle.frac128.specs.Rational.{ℚ, int}
 use Rattle.rand_pcg.specs.Lcg.{Lcg}
 use Rattle.rand_pcg.specs.Pcg.{pcg32}

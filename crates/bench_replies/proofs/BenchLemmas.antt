@@ -1,6 +1,6 @@
 -- What is written of a solved environment is what `bench` prints.
 use Rattle.std.specs.Prelude.{IfSome}
-use Rattle.std.proofs.Common.{◌≡◌, ◌∙◌, ℕ, false, true, List, [], ◌++◌, refl, sym, subst, ap, inl, inr, Option, Some, None, Ok, Err, Result}
+use Rattle.std.proofs.Common.{◌≡◌, ◌∙◌, ℕ, false, true, List, [], ◌++◌, sym, subst, ap, inl, inr, Option, Some, None, Ok, Err, Result}
 use Rattle.lp_model.specs.Program.{Program, Point}
 use Rattle.search_answers.specs.declared.answers.Answer.{Answer}
 use Rattle.search_answers.specs.declared.answers.Answer.TheVariants.{Optimal, Within, Infeasible, Unbounded, Stopped, Memory}
@@ -8,7 +8,7 @@ use Rattle.sound_searches.specs.Sound.{PlainSearch}
 use Rattle.tree_search.specs.Enough.{IsEnough}
 use Rattle.tree_search.specs.Solves.{Solved, SolvesFrom, HasRayFor, HasRayFrom}
 use Rattle.tree_search.specs.Truth.{IsTrueAnswer, HasEnded}
-use Rattle.kept_env.specs.Env.{PlainEnv, Holds, model_of, pool_in, with_answer}
+use Rattle.kept_env.specs.Env.{PlainEnv, Holds, model_of, pool_in}
 use Rattle.kept_env.specs.Worked.{Worked, WorksEnv, held_by}
 use Rattle.kept_env.specs.declared.env.EnvFault.{EnvFault}
 use Rattle.search_replies.specs.Solve.{IsSolvedEnv}

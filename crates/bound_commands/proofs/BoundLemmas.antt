@@ -1,7 +1,6 @@
 -- What the reply to a command of bounds shows.
 use Rattle.std.proofs.Common.{◌≡◌, ◌∷◌, ℕ, List, [], ◌++◌, refl, subst, sym, ap, ◌∙◌, inl, inr, Option, Some, None, Ok, Err, Result}
 use Rattle.std.specs.Prelude.{IfOk}
-use Rattle.frac128.specs.Rational.{ℚ}
 use Rattle.lp_model.specs.Edits.{Named}
 use Rattle.lp_model.specs.Program.{Program, value, least_value, in_least_form}
 use Rattle.lp_model.proofs.SenseLemmas.{own-least}

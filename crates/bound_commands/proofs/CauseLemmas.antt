@@ -21,7 +21,7 @@ use Rattle.shell_replies.specs.Bounds.{IsLowerTold, IsUpperTold}
 use Rattle.command_family.specs.Family.{HasCause, IsLawfulFamily}
 use Rattle.command_family.specs.Kinds.{BoundShown, WrongArguments, NoModel, UnknownName, WrongNumber, BadSides, WantsMemory, Is}
 use Rattle.command_family.specs.State.{ShellState}
-use Rattle.bound_commands.specs.Bounding.{asked_model, TellsBound, AnswersBound, IsAtOptimum, RepliesToNumbers, RepliesToPairs, BoundStep}
+use Rattle.bound_commands.specs.Bounding.{asked_model, TellsBound, AnswersBound, IsAtOptimum, RepliesToNumbers, RepliesToPairs}
 use Rattle.bound_commands.specs.Bounding as bounding
 use Rattle.bound_commands.specs.Family.{BoundsAsks, Bound, BoundsStep, SaysNumbers, boundings}
 use Rattle.bound_commands.specs.Laws.{UnchangedLaw, BestValueLaw}

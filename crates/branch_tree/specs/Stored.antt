@@ -5,7 +5,6 @@ use Rattle.lp_model.specs.Regions.{at_most, at_least}
 use Rattle.lp_model.specs.declared.types.BoundChange.{BoundChange}
 use Rattle.branch_tree.specs.Tree.{Leaf, Split}
 use Rattle.branch_tree.specs.Plain.{SplitKept, LeafKept, Plain, open_leaf}
-use Rattle.branch_tree.specs.declared.node.Node.{Node}
 use Rattle.branch_tree.specs.declared.stored.Up.{Up}
 use Rattle.branch_tree.specs.declared.stored.TreeNode.{TreeNode}
 use Rattle.branch_tree.specs.declared.stored.NodeKind.{NodeKind}

@@ -3,7 +3,7 @@
 --     lag, farkas        the numbers of a leaf's multipliers in a region, with the costs and without (leaf_dual)
 --     CutStands          a cut's names are known, and it derives (specs/Cuts)
 --     SplitsLawfully, EachLeaf each split is on an integer column; what holds of each leaf and its path (branch_tree)
-use Rattle.std.specs.Prelude.{◌≡◌, ◌≢◌, ◌⊎◌, ℕ, List, [], map, length, All, AllPairs, Contains}
+use Rattle.std.specs.Prelude.{◌≡◌, ◌≢◌, ℕ, List, [], map, length, All, AllPairs, Contains}
 use Rattle.frac128.specs.Rational.{ℚ, ◌-ℚ◌}
 use Rattle.lp_model.specs.Program.{Program, Point, value, in_least_form, IsFeasible}
 use Rattle.lp_model.specs.Lawful.{column_names}

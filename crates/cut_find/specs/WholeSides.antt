@@ -13,7 +13,6 @@ use Rattle.cover_cuts.specs.Answers.{CoverSumFits}
 use Rattle.whole_sums.specs.Wholes.{IsShort, HasMargin, IsDenominator}
 use Rattle.cut_find.specs.declared.whole_side.Mark.{Mark}
 use Rattle.cut_find.specs.declared.whole_side.WholeSide.{WholeSide}
-use Rattle.cut_find.specs.declared.whole_cover.Taking.{Taking}
 use Rattle.cut_find.specs.Greedy.{IsLiteralCandidate, is_in, cover_of, TakesGreedily, AfterTaking}
 
 -- ---- candidates

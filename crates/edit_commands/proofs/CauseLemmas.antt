@@ -15,9 +15,9 @@ use Rattle.command_family.specs.Family.{HasCause, IsLawfulFamily}
 use Rattle.command_family.specs.Kinds.{Done, WrongArguments, NoModel, UnknownName, TakenName, WrongNumber, OverLimit, NoBounds, BadSides, WantsMemory}
 use Rattle.command_family.specs.State.{ShellState}
 use Rattle.command_family.proofs.ReplyLemmas.{not_error, not_done}
-use Rattle.edit_commands.specs.Editing.{AnswersEdit, RepliesToEdit, RepliesToWords}
+use Rattle.edit_commands.specs.Editing.{RepliesToEdit, RepliesToWords}
 use Rattle.edit_commands.specs.Editing as editing
-use Rattle.edit_commands.specs.Trimming.{AnswersTrim, RepliesToTrim}
+use Rattle.edit_commands.specs.Trimming.{RepliesToTrim}
 use Rattle.edit_commands.specs.Trimming as trimming
 use Rattle.edit_commands.specs.Family.{ChangeAsks, Change, Trim, ChangeStep, SaysEdit, changes}
 

@@ -1,8 +1,7 @@
 -- A model that scripts may have stays one under an edit that brings a lawful name and near bounds.
-use Rattle.std.proofs.Common.{◌≡◌, ℕ, zero, suc, true, false, List, [], ◌∷◌, ◌++◌, map, length, refl, sym, subst, ◌∙◌, Option, Some, None}
+use Rattle.std.proofs.Common.{◌≡◌, ℕ, zero, suc, true, List, [], ◌∷◌, map, length, refl, sym, subst, ◌∙◌, Some}
 use Rattle.std.specs.Prelude.{All}
-use Rattle.std.proofs.lemmas.List.Elements.{All-nil, All-cons, All-head, All-tail, All-map, All-push, All-weaker}
-use Rattle.frac128.specs.Rational.{ℚ}
+use Rattle.std.proofs.lemmas.List.Elements.{All-cons, All-head, All-tail, All-map, All-push, All-weaker}
 use Rattle.lp_model.specs.Elements.{changed_at}
 use Rattle.lp_model.specs.Program.{Program}
 use Rattle.lp_model.specs.Edits.{col_place, row_place, with_entry, without_entry, replaced_entry, number_beside, with_sides, entries_beside, edited}
@@ -12,7 +11,6 @@ use Rattle.lp_model.specs.declared.types.Edit.{Edit}
 use Rattle.lp_model.specs.declared.types.Edit.TheVariants.{SetCost, SetCost2, SetRow, SetColBounds, SetKind, AddCol, DelCol, AddRow, DelRow, ReplaceRow}
 use Rattle.lp_model.proofs.ChangedLaws.{All-without_at}
 use Rattle.lp_model.specs.Names.{is_lawful_name}
-use Rattle.word_names.specs.ScriptModels.{is_far, IsScriptModel}
 use Rattle.word_names.proofs.ScriptNames.{script-rows}
 use Rattle.edit_words.specs.NewNames.{BringsName, IsNewName}
 use Rattle.edit_words.specs.NewBounds.{BringsBounds, IsNearBound, EditedModelLaw}

@@ -1,6 +1,6 @@
 -- Words from the first one on.
-use Rattle.std.proofs.Common.{◌≡◌, ℕ, ◌+◌, ◌-◌, ◌≤◌, ◌<◌, List, [], ◌∷◌, length, get_or, take, drop, arith, sym, ap, refl, Bor, Option}
-use Rattle.std.specs.Prelude.{map, Bool, true, false, not, ◌&&◌, ◌||◌, bytes_eq}
+use Rattle.std.proofs.Common.{◌≡◌, ℕ, ◌-◌, ◌≤◌, ◌<◌, List, [], ◌∷◌, length, get_or, take, drop, arith, sym, refl, Bor, Option}
+use Rattle.std.specs.Prelude.{map, Bool, false, not, ◌&&◌, ◌||◌, bytes_eq}
 use Rattle.std.proofs.lemmas.Grind.{common_steps}
 use Rattle.edit_words.specs.declared.kinds.EditKind.{EditKind}
 use Rattle.edit_words.specs.declared.forms.Slot.{Slot}

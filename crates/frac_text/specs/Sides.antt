@@ -1,5 +1,5 @@
 -- What bytes spell, where a number that is too wide still counts by its size: it stands at 10^20 or above, at -10^20 or below, or between.
-use Rattle.std.specs.Prelude.{◌-◌, ◌^◌, if◌then◌else◌, pos}
+use Rattle.std.specs.Prelude.{◌^◌, if◌then◌else◌, pos}
 use Rattle.frac128.specs.Rational.{ℚ, int, neg_ℚ, rational_le}
 use Rattle.frac_text.specs.Spelling.{Reading, Number, Wide, NoNumber}
 use Rattle.frac_text.specs.declared.numeral.Side.{Side}

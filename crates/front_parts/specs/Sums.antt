@@ -1,6 +1,5 @@
 -- The sums of a column's two costs, and which of them has no room first.
 use Rattle.std.specs.Prelude.{◌<◌, List, length, take, get_or, All}
-use Rattle.frac128.specs.Rational.{◌+ℚ◌}
 use Rattle.frac128.specs.Range.{SumFits}
 use Rattle.lp_model.specs.declared.types.Col.{Col}
 use Rattle.lp_model.specs.declared.types.ColId.{ColId}

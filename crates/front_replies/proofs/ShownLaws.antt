@@ -1,5 +1,5 @@
 -- The reply that tells outcomes shows them.
-use Rattle.std.proofs.Common.{◌≡◌, ℕ, ◌^◌, ◌<◌, Bool, List, [], ◌∷◌, ◌++◌, length, map, refl, ap, ◌∙◌, arith, append_assoc, append-nil, if◌then◌else◌}
+use Rattle.std.proofs.Common.{◌≡◌, ℕ, ◌^◌, ◌<◌, List, [], ◌∷◌, ◌++◌, length, map, refl, ap, ◌∙◌, arith, append_assoc, append-nil}
 use Rattle.std.specs.Prelude.{ℤ, All, codes, drop, Option, Some, None}
 use Rattle.std.specs.List.{slice_split, filter, onto_first}
 use Rattle.std.specs.Fmt.{decimal, signed_decimal}
@@ -20,10 +20,9 @@ use Rattle.cert_writer.proofs.WordLaws.{plain_word, decimal_word, signed_word, w
 use Rattle.cert_writer.proofs.PrintedLaws.{two, whole_read}
 use Rattle.reply_texts.specs.Texts.{part_stop_text}
 use Rattle.wcn_driver.specs.declared.answers.Part.{Part}
-use Rattle.wcn_driver.specs.declared.answers.ScalePlace.{ScalePlace}
-use Rattle.front_replies.specs.FrontReplies.{row_words, head_words, complete_front_text, front_part_text, part_words, scale_stop_text, stopped_front_text, wide_front_text}
+use Rattle.front_replies.specs.FrontReplies.{row_words, head_words, complete_front_text, front_part_text, part_words, scale_stop_text, stopped_front_text}
 use Rattle.front_replies.specs.FrontsShown.{whole_spelled, outcome_told, outcome_in, outcome_on, first_told, front_shown}
-use Rattle.front_replies.specs.Laws.{HasNarrowValues, AreShown, FrontShownLaw}
+use Rattle.front_replies.specs.Laws.{HasNarrowValues, FrontShownLaw}
 
 -- ---- lines before a text are lines of the whole
 

@@ -1,15 +1,14 @@
 -- The edits that make inner models fit: their names are known and free, and there is room for them.
-use Rattle.std.specs.Prelude.{◌≡◌, ◌⊎◌, ℕ, suc, ◌+◌, ◌<◌, ◌≤◌, Bool, true, false, if◌then◌else◌, List, [], ◌∷◌, ◌++◌, length, map, sum_by, get_or, All, Contains, pos, negsuc, ℤ, Option, Some, None}
-use Rattle.std.proofs.Common.{refl, sym, ap, subst, ◌∙◌, arith, inl, inr}
-use Rattle.std.proofs.lemmas.List.{length-map, length_push, map-append, map_push}
+use Rattle.std.specs.Prelude.{◌≡◌, ℕ, suc, ◌+◌, ◌<◌, ◌≤◌, Bool, true, false, if◌then◌else◌, List, [], ◌∷◌, ◌++◌, length, map, sum_by, get_or, All, Contains, pos, negsuc, ℤ, Some, None}
+use Rattle.std.proofs.Common.{refl, sym, ap, subst, arith, inl, inr}
+use Rattle.std.proofs.lemmas.List.{length-map, length_push, map_push}
 use Rattle.std.proofs.lemmas.List.Elements.{All-push, Contains-get_or, Contains-push, Contains-push_cases, Contains-append_left}
 use Rattle.std.proofs.lemmas.List.Sums.{sum_by-cons, sum_by_push}
 use Rattle.frac128.specs.Rational.{ℚ, int}
 use Rattle.lp_model.specs.Limits.{col_limit, entry_limit, row_limit}
 use Rattle.lp_model.specs.Program.{Program}
 use Rattle.lp_model.specs.Lawful.{AreWithinLimits, IsLawful, row_names, column_names, entry_count}
-use Rattle.lp_model.specs.Edits.{Named, number_beside, entries_beside, is_zero, with_entry, edited, EditFits}
-use Rattle.lp_model.specs.declared.types.RowId.{RowId}
+use Rattle.lp_model.specs.Edits.{Named, number_beside, is_zero, with_entry, edited, EditFits}
 use Rattle.lp_model.specs.declared.types.Col.{Col}
 use Rattle.inner_models.specs.Inner.{least_col, bare_model, costed, with_objective, z_name, g1_name, g2_name, row_terms, row_terms_less_z, capped, width_column}
 use Rattle.inner_models.specs.Room.{HasInnerRoom, HasFittingEdits}

@@ -1,7 +1,7 @@
 -- Cuts that go with an edit: where those stand that stay.
 -- Idea: of the cuts before a place, those that stay are counted by `stay_before`; so a cut that stays goes to that count
 -- (`place-is`), which rises from one that stays to each later place (`stays`), so none shares its place (`places-apart`).
-use Rattle.std.specs.Prelude.{◌≡◌, ℕ, zero, suc, ◌+◌, ◌-◌, ◌<◌, ◌≤◌, Bool, true, false, ◌||◌, if◌then◌else◌, not, nat_eq, nat_lt, List, [], ◌∷◌, length, map, filter}
+use Rattle.std.specs.Prelude.{◌≡◌, ℕ, zero, suc, ◌+◌, ◌-◌, ◌<◌, ◌≤◌, Bool, true, false, if◌then◌else◌, not, nat_eq, nat_lt, List, [], ◌∷◌, length, map, filter}
 use Rattle.std.proofs.Common.{refl, sym, ap, subst, ◌∙◌, arith, inl, inr}
 use Rattle.std.proofs.lemmas.Bool.{cases_order, lt-ltb, le-ltb, eqb-false, not-true, or_parts}
 use Rattle.std.proofs.lemmas.List.{length-map}

@@ -13,7 +13,7 @@ use std::alloc::{AllocError, Global};
 use std::marker::Model;
 use std::sync::ledger::Ledger;
 
-/// A running total, and totals that were kept on the way. The memory for those is taken ahead (`new`), so that
+/// A running total, and totals that were kept on the way. The memory for those is taken ahead (`new`, `copy`), so that
 /// going on takes none. Contracts see `RunningTotals`.
 #[derive(Drop)]
 pub struct Totals {

@@ -79,7 +79,7 @@ fn lag_number<L: Ledger>(
     pool: &CutPool,
     region: &[BoundChange],
     mult: &Mult,
-    seeks: bool,
+    seeks_short: bool,
     steps: &mut Steps<L>,
 ) -> LeafNumber
     requires narrow { AreNarrow region.now }
@@ -97,7 +97,7 @@ fn lag_number<L: Ledger>(
         mult: mult.as_slice(),
         costed: true,
     };
-    match list_number(totals, &leaf, seeks, steps) {
+    match list_number(totals, &leaf, seeks_short, steps) {
         Ok(value) => LeafNumber::Lag(value),
         Err(step) => LeafNumber::Wide(step),
     }
@@ -174,7 +174,7 @@ impl LeafEntry {
         region: &[BoundChange],
         mult: &Mult,
         farkas: &Mult,
-        seeks: bool,
+        seeks_short: bool,
         steps: &mut Steps<L>,
     )
         requires narrow { AreNarrow region.now }
@@ -192,7 +192,7 @@ impl LeafEntry {
             self.number = LeafNumber::Empty;
             return;
         }
-        self.number = lag_number(&mut self.lag, model, pool, region, mult, seeks, steps);
+        self.number = lag_number(&mut self.lag, model, pool, region, mult, seeks_short, steps);
     }
 
     /// The number after another cost of a column, gone on with from the last total before it. An empty region stays one.
@@ -279,7 +279,7 @@ pub(crate) fn entry_by<L: Ledger>(
     region: &[BoundChange],
     mult: &Mult,
     farkas: &Mult,
-    seeks: bool,
+    seeks_short: bool,
     steps: &mut Steps<L>,
 ) -> Result<LeafEntry, AllocError>
     requires narrow { AreNarrow region.now }
@@ -289,7 +289,7 @@ pub(crate) fn entry_by<L: Ledger>(
 {
     match LeafEntry::new(alloc, model, farkas) {
         Ok(mut entry) => {
-            entry.renumber(model, pool, region, mult, farkas, seeks, steps);
+            entry.renumber(model, pool, region, mult, farkas, seeks_short, steps);
             Ok(entry)
         }
         Err(error) => Err(error),

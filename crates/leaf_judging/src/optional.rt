@@ -17,7 +17,7 @@ use std::sync::ledger::Ledger;
 pub(crate) fn list_number<L: Ledger>(
     totals: &mut LeafTotals,
     leaf: &Leaf<'_>,
-    seeks: bool,
+    seeks_short: bool,
     steps: &mut Steps<L>,
 ) -> Result<LagValue, WideStep>
     requires narrow { AreNarrow leaf.now.region.now }
@@ -38,7 +38,7 @@ pub(crate) fn list_number<L: Ledger>(
         mult: leaf.mult,
         costed: leaf.costed,
     };
-    totals.go_on(&front, seeks, steps)
+    totals.go_on(&front, seeks_short, steps)
 }
 
 /// A value on the heap.

@@ -78,7 +78,7 @@ fn walk_in_fractions<L: Ledger>(
 fn walk_leaf<L: Ledger>(
     totals: &mut Totals,
     leaf: &Leaf<'_>,
-    seeks: bool,
+    seeks_short: bool,
     over: &mut Option<i64>,
     steps: &mut Steps<L>,
 ) -> Option<End>
@@ -139,7 +139,7 @@ fn walk_leaf<L: Ledger>(
     match walk(totals, &whole, steps) {
         Some(end) => Some(end),
         None => {
-            if seeks {
+            if seeks_short {
                 if whole.has_short_terms() {
                     *over = Some(denominator);
                     return None;
@@ -212,7 +212,7 @@ impl LeafTotals {
     fn add<L: Ledger>(
         &mut self,
         leaf: &Leaf<'_>,
-        seeks: bool,
+        seeks_short: bool,
         steps: &mut Steps<L>,
     ) -> Result<LagValue, WideStep>
         requires narrow { AreNarrow leaf.now.region.now }
@@ -226,7 +226,7 @@ impl LeafTotals {
         ensures rises { steps.old ≤ steps.new }
         ensures steps { steps.new ≤ steps.old + terms_behind (question_of leaf.now) (length self.old.totals.kept) }
     {
-        match walk_leaf(&mut self.totals, leaf, seeks, &mut self.over, steps) {
+        match walk_leaf(&mut self.totals, leaf, seeks_short, &mut self.over, steps) {
             None => {
                 self.ending = None;
                 Ok(LagValue::Num(self.totals.value()))
@@ -244,7 +244,7 @@ impl LeafTotals {
     pub fn go_on<L: Ledger>(
         &mut self,
         leaf: &Leaf<'_>,
-        seeks: bool,
+        seeks_short: bool,
         steps: &mut Steps<L>,
     ) -> Result<LagValue, WideStep>
         requires narrow { AreNarrow leaf.now.region.now }
@@ -260,7 +260,7 @@ impl LeafTotals {
         ensures steps { steps.new ≤ steps.old + steps_left (question_of leaf.now) self.old }
     {
         match &self.ending {
-            None => self.add(leaf, seeks, steps),
+            None => self.add(leaf, seeks_short, steps),
             Some(end) => answer_of_end(leaf, end),
         }
     }

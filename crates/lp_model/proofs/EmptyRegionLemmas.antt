@@ -4,7 +4,7 @@ use Rattle.std.proofs.Common.{inl, inr, refl, sym, subst, ap, ◌∙◌, arith}
 use Rattle.std.proofs.lemmas.Bool.{eqb-true}
 use Rattle.std.proofs.lemmas.List.{drop_more}
 use Rattle.std.proofs.lemmas.Int.{ints}
-use Rattle.frac128.specs.Rational.{ℚ, int, ◌≤ℚ◌, ◌<ℚ◌, floor, ceil, max_ℚ, min_ℚ, IsWhole}
+use Rattle.frac128.specs.Rational.{ℚ, int, ◌≤ℚ◌, ◌<ℚ◌, floor, ceil, IsWhole}
 use Rattle.frac128.specs.RationalOrder.{≤ℚ_refl, <ℚ-≤ℚ_trans, ≤ℚ-<ℚ_trans}
 use Rattle.frac128.proofs.Division.{min-≤ℚ, ≤ℚ-max}
 use Rattle.frac128.proofs.Rounding.{≤ℚ-int, ≤ℚ-ceil, int-floor}
@@ -14,7 +14,7 @@ use Rattle.lp_model.specs.Regions.{Path, low_after, high_after, low_along, high_
 use Rattle.lp_model.specs.declared.types.Side.{Side}
 use Rattle.lp_model.specs.declared.types.Side.TheVariants.{Lo, Hi}
 use Rattle.lp_model.specs.declared.types.BoundChange.{BoundChange}
-use Rattle.lp_model.specs.private.EmptyRegions.{IsNamed, IsEmptyColumn, IsEmptyWhereNamed}
+use Rattle.lp_model.specs.private.EmptyRegions.{IsNamed, IsEmptyWhereNamed}
 
 pub int-ceil : (x : ℚ) → IsWhole x → int (ceil x) ≡ x
 int-ceil x w =

@@ -1,6 +1,6 @@
 -- A number of an objective in least form, and back in the objective's own sense.
 use Rattle.std.proofs.Common.{◌≡◌, [], ◌∷◌, refl}
-use Rattle.frac128.specs.Rational.{ℚ, neg_ℚ}
+use Rattle.frac128.specs.Rational.{ℚ}
 use Rattle.frac128.specs.RationalRing.{ring, reads_ℚ}
 use Rattle.lp_model.specs.Program.{in_least_form, in_own_sense}
 use Rattle.lp_model.specs.declared.types.Sense.{Sense}

@@ -1,5 +1,5 @@
 -- A model that was widened is lawful: its limits are no lower.
-use Rattle.std.specs.Prelude.{ℕ, ◌≤◌, Bool, true, false}
+use Rattle.std.specs.Prelude.{◌≤◌, Bool, true, false}
 use Rattle.std.proofs.Common.{arith}
 use Rattle.lp_model.specs.Program.{Program}
 use Rattle.lp_model.specs.Limits.{row_limit, col_limit, entry_limit}

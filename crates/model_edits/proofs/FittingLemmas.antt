@@ -1,5 +1,5 @@
 -- An edit that fits has none of the faults.
-use Rattle.std.specs.Prelude.{◌≡◌, ◌⊎◌, ℕ, ◌<◌, ◌≤◌, Bool, length, Contains}
+use Rattle.std.specs.Prelude.{ℕ, Bool, length, Contains}
 use Rattle.std.proofs.Common.{sym, subst, arith, inl, inr}
 use Rattle.lp_model.specs.Program.{Program}
 use Rattle.lp_model.specs.Lawful.{AreWithinLimits, entry_count}

@@ -1,5 +1,5 @@
 -- The numbers of a text, and the limits that BOUNDS states.
-use Rattle.std.specs.Prelude.{ℕ, ◌^◌, Bool, true, false, not, ◌||◌, if◌then◌else◌, List, codes, Option, None, Some, Result, Ok, Err, pos}
+use Rattle.std.specs.Prelude.{ℕ, Bool, true, false, not, ◌||◌, if◌then◌else◌, List, codes, Option, None, Some, Result, Ok, Err, pos}
 use Rattle.frac128.specs.Rational.{ℚ, int, neg_ℚ, rational_le}
 use Rattle.frac_text.specs.Sides.{side_of, numeral_of}
 use Rattle.frac_text.specs.declared.numeral.Side.{Side}
@@ -10,7 +10,6 @@ use Rattle.frac_text.specs.Spelling.{reading_of, is_minus, without_sign}
 use Rattle.mps_fields.specs.Words.{is_key}
 use Rattle.mps_fields.specs.declared.words.BoundKind.{BoundKind}
 use Rattle.mps_fields.specs.declared.words.BoundKind.TheVariants.{Lower, Upper, Fixed, IntegerLower, IntegerUpper}
-use Rattle.frac_text.specs.Parsing.{parsed}
 use Rattle.frac_text.specs.declared.parsing.NumFault.{NumFault}
 use Rattle.frac_text.specs.declared.parsing.NumFault.TheVariants.{NotNumber, Wide as TooWide}
 use Rattle.mps_fields.specs.declared.numbers.Limit.{Limit}

@@ -1,7 +1,7 @@
 -- Whether the sides that RANGES gives have room is decided, and where they have it they are a range: the low one is never above
 -- the high one.
-use Rattle.std.proofs.Common.{◌≡◌, ℕ, ◌≤◌, Bool, true, false, not, [], ◌∷◌, refl, sym, ◌∙◌, ap, pos, arith}
-use Rattle.std.specs.Prelude.{nat_le, if◌then◌else◌, Option, None, Some, IfSome}
+use Rattle.std.proofs.Common.{◌≡◌, ◌≤◌, Bool, true, false, not, [], ◌∷◌, refl, sym, ◌∙◌, ap, pos}
+use Rattle.std.specs.Prelude.{if◌then◌else◌, Option, None, Some, IfSome}
 use Rattle.std.proofs.lemmas.Bool.{and_parts, true≢false, false_from_ne_true}
 use Rattle.frac128.specs.Rational.{ℚ, int, neg_ℚ, ◌+ℚ◌, ◌-ℚ◌, ◌≤ℚ◌, rational_le}
 use Rattle.frac128.proofs.Comparison.{rational_le-decides}

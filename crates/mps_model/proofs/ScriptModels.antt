@@ -1,5 +1,5 @@
 -- A text means a model that scripts may have: lawful names, bounds below 10^20 in magnitude, and not widened.
-use Rattle.std.proofs.Common.{◌≡◌, ℕ, zero, suc, ◌+◌, ◌<◌, ◌≤◌, ◌^◌, ◌%◌, arith, Bool, true, false, not, ◌&&◌, ◌||◌, List, [], ◌∷◌, ◌++◌, map, length, refl, sym, ◌∙◌, ap, subst, length-append, pos, neg_ℤ}
+use Rattle.std.proofs.Common.{◌≡◌, ℕ, zero, suc, ◌+◌, ◌<◌, ◌≤◌, ◌^◌, ◌%◌, arith, Bool, true, false, not, ◌&&◌, List, [], ◌∷◌, ◌++◌, map, length, refl, sym, ◌∙◌, subst, length-append, pos, neg_ℤ}
 use Rattle.std.specs.Prelude.{Option, None, Some, IfSome, if◌then◌else◌, codes, bytes_eq, All}
 use Rattle.std.specs.Fmt.{decimal}
 use Rattle.std.specs.List.{list_all, filter, fold}
@@ -9,18 +9,17 @@ use Rattle.std.proofs.lemmas.Bool.Decides.{nat_tests}
 use Rattle.std.proofs.lemmas.Fmt.{decimal_by_steps, length-decimal-le}
 use Rattle.std.proofs.lemmas.Int.{ints}
 use Rattle.std.proofs.lemmas.List.{length-map}
-use Rattle.std.proofs.lemmas.List.Elements.{All-nil, All-cons, All-head, All-tail, All-map, All-weaker}
+use Rattle.std.proofs.lemmas.List.Elements.{All-cons, All-head, All-tail, All-map, All-weaker}
 use Rattle.std.proofs.lemmas.List.Folds.{list_all-append}
 use Rattle.frac128.specs.Rational.{ℚ, int, neg_ℚ, rational_le, ◌≤ℚ◌}
 use Rattle.frac128.proofs.Comparison.{rational_le-decides}
 use Rattle.frac128.specs.RationalRing.{int-neg_ℤ}
 use Rattle.frac128.proofs.Integers.{int-≤ℚ-int}
 use Rattle.lp_model.specs.Limits.{row_limit}
-use Rattle.lp_model.specs.Program.{Program}
 use Rattle.lp_model.specs.Lawful.{row_names}
 use Rattle.lp_model.specs.declared.types.Col.{Col}
 use Rattle.lp_model.specs.declared.types.Row.{Row}
-use Rattle.lp_model.specs.Names.{is_name_byte, is_lawful_name}
+use Rattle.lp_model.specs.Names.{is_name_byte}
 use Rattle.frac_text.specs.Sides.{far}
 use Rattle.word_names.specs.ScriptModels.{is_far, IsScriptModel}
 use Rattle.mps_fields.specs.Words.{among}
@@ -30,19 +29,18 @@ use Rattle.mps_fields.specs.declared.numbers.Limit.TheVariants.{Finite, Plus, Mi
 use Rattle.mps_fields.specs.declared.words.BoundKind.{BoundKind}
 use Rattle.mps_fields.specs.declared.words.BoundKind.TheVariants.{Lower, Upper, Fixed, Unbounded, NoLower, NoUpper, Binary, IntegerLower, IntegerUpper}
 use Rattle.mps_text.specs.Text.{records_of}
-use Rattle.mps_sections.specs.Statements.{stated, stated_sections, stated_row_names}
+use Rattle.mps_sections.specs.Statements.{stated_sections, stated_row_names}
 use Rattle.mps_sections.specs.declared.statements.BoundLine.{BoundLine}
 use Rattle.mps_sections.specs.declared.statements.ColumnLines.{ColumnLines}
 use Rattle.mps_sections.specs.declared.statements.RowLine.{RowLine}
 use Rattle.mps_sections.specs.declared.statements.Sections.{Sections}
 use Rattle.mps_sections.proofs.StatedLimits.{whole-keeps_limits}
-use Rattle.mps_model.specs.Faults.{MeantModel}
 use Rattle.mps_model.specs.Laws.{ScriptModelLaw}
 use Rattle.mps_model.specs.Meaning.{candidate, free_from, free_name, objective_or, objective_name, second_or, second_name, start_span, span_of, upper_or, column_of, row_of, model_of}
-use Rattle.mps_model.specs.Spans.{bounded, with_lower, with_upper, without_lower, without_upper}
+use Rattle.mps_model.specs.Spans.{bounded, with_lower, with_upper}
 use Rattle.mps_model.specs.declared.spans.Span.{Span}
 use Rattle.mps_model.proofs.VisibleWords.{IsSeen}
-use Rattle.mps_model.proofs.StatedParts.{IsLawfulName, IsNearLimit, IsLawfulRow, IsLawfulLines, IsNearLine, HasLawfulParts, lawful-by, whole-parts}
+use Rattle.mps_model.proofs.StatedParts.{IsLawfulName, IsNearLimit, IsLawfulLines, IsNearLine, HasLawfulParts, lawful-by, whole-parts}
 
 -- ---- free names
 

@@ -1,6 +1,6 @@
 -- What a text without fault states has lawful names, and each number that a bound has is below 10^20 in magnitude.
-use Rattle.std.proofs.Common.{◌≡◌, ℕ, zero, suc, refl, ◌<◌, ◌≤◌, Bool, true, false, not, ◌&&◌, ◌||◌, List, [], ◌∷◌, ◌++◌, length, map, sym, subst, arith, append_assoc, if◌then◌else◌}
-use Rattle.std.specs.Prelude.{nat_le, nat_lt, Option, None, Some, All, Ok, Err}
+use Rattle.std.proofs.Common.{◌≡◌, ℕ, zero, suc, refl, ◌<◌, ◌≤◌, Bool, true, false, not, ◌&&◌, List, [], ◌∷◌, ◌++◌, length, map, sym, subst, arith, append_assoc, if◌then◌else◌}
+use Rattle.std.specs.Prelude.{nat_le, Option, None, Some, All, Ok}
 use Rattle.std.specs.List.{list_all}
 use Rattle.std.proofs.lemmas.Bool.{and_from, lt-ltb, le-leb, ltb-false, or_from, or_parts}
 use Rattle.std.proofs.lemmas.List.Elements.{All-nil, All-cons, All-append, All-head, All-tail, All-get_or, All-push}
@@ -14,8 +14,8 @@ use Rattle.frac_text.specs.declared.numeral.Side.TheVariants.{Above, Between, Be
 use Rattle.text_lines.specs.Words.{IsWord}
 use Rattle.mps_text.specs.Text.{Entry, records_of}
 use Rattle.mps_fields.specs.Words.{word, row_kind, bound_kind, line_kind}
-use Rattle.mps_fields.specs.Numbers.{is_infinite_word, limit_beside, limit_at, limit_at_side, limit_read, infinite, limit_of, limit_or_plus, limit}
-use Rattle.mps_fields.specs.Fields.{has_count, is_long_name, bound_field, column_pairs}
+use Rattle.mps_fields.specs.Numbers.{is_infinite_word, limit_beside, limit_at, limit_at_side, limit_read, infinite, limit_or_plus, limit}
+use Rattle.mps_fields.specs.Fields.{is_long_name, bound_field, column_pairs}
 use Rattle.mps_fields.specs.declared.numbers.Limit.{Limit}
 use Rattle.mps_fields.specs.declared.numbers.Limit.TheVariants.{Finite, Plus, Minus}
 use Rattle.mps_fields.specs.declared.words.BoundKind.{BoundKind}

@@ -5,7 +5,7 @@ use Rattle.std.specs.Fmt.{decimal, signed_decimal}
 use Rattle.std.proofs.lemmas.Bool.{le-ltb, not_from_true, false_from_ne_true, or_from, and_left}
 use Rattle.std.proofs.lemmas.Bool.Decides.{nat_tests, Decides-eqb}
 use Rattle.std.proofs.lemmas.Fmt.{decimal_by_steps_wide}
-use Rattle.frac128.specs.Rational.{ℚ, den, int, neg_ℚ, rational_le, IsWhole}
+use Rattle.frac128.specs.Rational.{ℚ, den, neg_ℚ, rational_le, IsWhole}
 use Rattle.frac128.proofs.Comparison.{rational_le-decides}
 use Rattle.frac128.specs.RationalOrder.{not_both_ℚ}
 use Rattle.frac128.specs.Range.{Fits, IsNarrow}
@@ -22,7 +22,7 @@ use Rattle.mps_sections.specs.Faults.{least, tests_of, bound_tests, code_in}
 use Rattle.mps_fields.specs.Fields.{is_long_name}
 use Rattle.mps_sections.specs.Shown.{after_kind, after}
 use Rattle.mps_fields.specs.declared.numbers.Limit.{Limit}
-use Rattle.mps_fields.specs.declared.numbers.Limit.TheVariants.{Finite, Plus, Minus}
+use Rattle.mps_fields.specs.declared.numbers.Limit.TheVariants.{Finite}
 use Rattle.mps_fields.specs.declared.words.Section.TheVariants.{Bounds}
 use Rattle.mps_fields.specs.declared.words.BoundKind.{BoundKind}
 use Rattle.mps_fields.specs.declared.words.BoundKind.TheVariants.{Lower, Upper, NoLower, NoUpper}

@@ -1,17 +1,16 @@
 -- A model that scripts may have, of which no row or objective is named by the marker word, is read back from its canonical text.
-use Rattle.std.proofs.Common.{◌≡◌, ℕ, true, false, List, map, arith, subst}
+use Rattle.std.proofs.Common.{◌≡◌, ℕ, true, false, List, arith, subst}
 use Rattle.std.specs.Prelude.{Option, Some}
 use Rattle.std.specs.Option.{ForSome}
 use Rattle.std.proofs.lemmas.Bool.{or_parts}
 use Rattle.std.proofs.lemmas.Int.{ints}
 use Rattle.std.proofs.lemmas.List.Elements.{All-map, All-weaker}
 use Rattle.frac128.specs.Rational.{ℚ, neg_ℚ, rational_le, ◌<ℚ◌}
-use Rattle.lp_model.specs.Program.{Program}
 use Rattle.lp_model.specs.Lawful.{row_names}
 use Rattle.lp_model.specs.declared.types.Col.{Col}
 use Rattle.frac_text.specs.Sides.{far}
 use Rattle.lp_model.specs.Names.{is_lawful_name}
-use Rattle.word_names.specs.ScriptModels.{is_far, IsScriptModel}
+use Rattle.word_names.specs.ScriptModels.{is_far}
 use Rattle.mps_writer.specs.Laws.{ScriptWritableLaw}
 use Rattle.mps_writer.specs.Writable.{IsField, IsNotFar, HasNoFarBounds}
 use Rattle.mps_writer.proofs.FieldLaws.{key_field}

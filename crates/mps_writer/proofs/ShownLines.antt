@@ -1,7 +1,6 @@
 -- Each line of a writable model's canonical text is shown: its words are fields, and there are 1 to 4 of them.
-use Rattle.std.proofs.Common.{◌≡◌, ℕ, Bool, true, false, ◌&&◌, List, [], ◌∷◌, ◌++◌, map, length, refl, arith}
-use Rattle.std.specs.Prelude.{if◌then◌else◌, flat_map, codes, nat_le, Option, None, Some, All}
-use Rattle.std.specs.List.{list_all}
+use Rattle.std.proofs.Common.{◌≡◌, ℕ, Bool, true, false, List, [], ◌∷◌, ◌++◌, map, refl, arith}
+use Rattle.std.specs.Prelude.{if◌then◌else◌, flat_map, codes, Option, None, Some, All}
 use Rattle.std.specs.Option.{ForSome}
 use Rattle.std.specs.Ordering.{eq_by_cmp}
 use Rattle.std.proofs.lemmas.List.Elements.{All-nil, All-cons, All-head, All-tail, All-append}

@@ -23,7 +23,6 @@ use Rattle.dual_simplex.specs.Solves.{IsLpOptimum}
 use Rattle.node_solve.specs.Runs.{IsSimplexRun}
 use Rattle.node_solve.specs.Works.{IsWholeAt, IsDone, IsAllowedBy, IsRunWide, IsOfLeaf}
 use Rattle.node_solve.specs.Places.{live_cuts, live_places, basis_in_relaxation, result_in_pool, with_cut_variables}
-use Rattle.node_solve.specs.declared.rounds.Solved.{Solved}
 use Rattle.node_solve.specs.declared.working.Worked.{Worked}
 use Rattle.node_solve.specs.declared.working.Worked.TheVariants.{Done, Pivots, Wide, Memory}
 

@@ -3,10 +3,10 @@ use Rattle.std.proofs.Common.{◌≡◌, ℕ, List, [], ◌∷◌, ◌<◌, ◌^
 use Rattle.std.specs.Prelude.{find, unwrap_or, decimal, String}
 use Rattle.std.specs.String.{string_bytes}
 use Rattle.std.specs.declared.alloc.Global.{Global}
-use Rattle.clap.specs.Walk.{Text, Walk, answers_to, arg_by_index, finished, nothing_held, settled, to_positional, value, walk, walk_from, walked}
+use Rattle.clap.specs.Walk.{Text, Walk, answers_to, arg_by_index, finished, nothing_held, settled, to_positional, walk, walk_from, walked}
 use Rattle.clap.specs.Simple.{Shape, built, label_of, new_shape, subcommand_of}
 use Rattle.clap.specs.Kinds.{Kinds, or_else, value_kinds}
-use Rattle.clap.specs.Faults.{check_fault, defaults_fault, fault_of, level_fault, settle_fault, step_fault, turn_fault, walk_fault}
+use Rattle.clap.specs.Faults.{check_fault, defaults_fault, fault_of, level_fault, settle_fault, turn_fault, walk_fault}
 use Rattle.clap.specs.Values.{refused_kind}
 use Rattle.clap.specs.ValueTests.{accepts}
 use Rattle.clap.specs.declared.builder.value_parser.ValueParser.{ValueParser}

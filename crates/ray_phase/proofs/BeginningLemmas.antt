@@ -4,7 +4,6 @@ use Rattle.std.specs.Prelude.{length, true, None, Ok, refl}
 use Rattle.frac128.specs.Rational.{ℚ, int, ◌*ℚ◌, ◌<ℚ◌}
 use Rattle.frac128.specs.RationalOrder.{<ℚ_irrefl}
 use Rattle.frac128.specs.RationalRing.{ring, reads_ℚ}
-use Rattle.frac128.specs.Sums.{sum_below}
 use Rattle.checked_sum.proofs.SumLaws.{sum_below-zero, sum_below-same}
 use Rattle.lp_model.specs.Program.{Program, Point, coordinate, cost, in_least_form}
 use Rattle.lp_model.specs.declared.types.Basis.{Basis}

@@ -1,13 +1,11 @@
 -- A basis that the ray phase answers, and the lists of a lawful slack state, are ones to fall back to.
-use Rattle.std.specs.Prelude.{◌≡◌, ◌⊎◌, ℕ, ◌+◌, ◌<◌, [], length, List}
+use Rattle.std.specs.Prelude.{◌≡◌, ℕ, ◌+◌, ◌<◌, [], length, List}
 use Rattle.std.proofs.Common.{refl, sym, ap, subst, ◌∙◌, inl, inr}
 use Rattle.lp_model.specs.Program.{Program}
-use Rattle.lp_model.specs.Formulations.{without_cuts}
 use Rattle.lp_model.specs.declared.types.Basis.{Basis}
 use Rattle.lp_model.specs.declared.types.Var.{Var}
 use Rattle.table_entries.specs.Bases.{IsNamedBy, Lists}
 use Rattle.table_entries.specs.States.{IsGood}
-use Rattle.table_entries.specs.declared.stand.Stand.TheVariants.{High}
 use Rattle.table_entries.proofs.BringIn.{nonbasic_within}
 use Rattle.row_tableau.specs.Activities.{activity_count}
 use Rattle.row_tableau.specs.Relaxations.{plain, of_kind}

@@ -1,10 +1,9 @@
 -- The lawful part of a tree that comes from elsewhere: each split that is not on an integer column is one open leaf.
-use Rattle.std.specs.Prelude.{◌-◌, if◌then◌else◌}
+use Rattle.std.specs.Prelude.{if◌then◌else◌}
 use Rattle.lp_model.specs.Program.{Program, is_integer}
 use Rattle.branch_tree.specs.Tree as tree
 use Rattle.branch_tree.specs.Plain.{open_data}
 use Rattle.branch_tree.specs.Preorder.{DataTree}
-use Rattle.branch_tree.specs.declared.node.NodeData.{NodeData}
 use Rattle.branch_tree.specs.declared.node.NodeData.TheVariants.{Split, Leaf}
 
 -- each split that is not on an integer column is one open leaf, with its multipliers and its basis

@@ -1,20 +1,18 @@
 -- The open leaf that goes first decides whether all leaves close against the target of a gap.
-use Rattle.std.specs.Prelude.{◌≡◌, ◌⊎◌, ◌↔◌, ℕ, List, [], ◌∷◌, ◌++◌, pos, Option, Some, None, ℤ, Ok, Err}
-use Rattle.std.proofs.Common.{refl, sym, ap, subst, ◌∙◌, inl, inr}
+use Rattle.std.specs.Prelude.{◌≡◌, ◌⊎◌, ◌↔◌, ℕ, List, [], ◌∷◌, ◌++◌, pos, Option, Some, ℤ, Ok, Err}
+use Rattle.std.proofs.Common.{sym, ap, subst, ◌∙◌, inl, inr}
 use Rattle.std.proofs.lemmas.List.{map-append}
-use Rattle.frac128.specs.Rational.{ℚ, int, ◌-ℚ◌, ◌≤ℚ◌}
+use Rattle.frac128.specs.Rational.{ℚ, int, ◌≤ℚ◌}
 use Rattle.frac128.specs.RationalRing.{reads_ℚ}
 use Rattle.frac128.specs.RationalOrder.{linear, ≤ℚ_of_<ℚ, ≤ℚ_of_≡}
 use Rattle.lp_model.specs.Regions.{Path}
 use Rattle.lp_model.specs.Formulations.{Formulation}
 use Rattle.leaf_dual.specs.Dual.{ReachesIn}
-use Rattle.leaf_dual.specs.declared.dual.LagValue.{LagValue}
 use Rattle.leaf_dual.specs.declared.dual.LagValue.TheVariants.{Minus, Num}
 use Rattle.leaf_dual.proofs.OneAnswer.{lag_one}
 use Rattle.branch_tree.specs.Tree.{Leaf, Split, leaves, left_path, right_path, EachLeaf}
 use Rattle.branch_tree.specs.Plain.{SplitKept, LeafKept, Plain}
 use Rattle.branch_tree.specs.Leaves.{region_leaf, region_leaves}
-use Rattle.branch_tree.specs.declared.node.LeafState.{LeafState}
 use Rattle.branch_tree.specs.declared.node.LeafState.TheVariants.{IsOpen, IsClosed}
 use Rattle.branch_tree.specs.declared.node.LeafData.{LeafData}
 use Rattle.branch_tree.specs.declared.node.RegionLeaf.{RegionLeaf}
@@ -23,7 +21,6 @@ use Rattle.leaf_judging.specs.declared.closing.LeafNumber.{LeafNumber}
 use Rattle.leaf_judging.specs.declared.closing.LeafNumber.TheVariants.{Empty, Lag, Wide}
 use Rattle.leaf_judging.specs.Closing.{IsSetAside, IsNumber, NumberCloses, ClosesBy, StateSays, IsJudgedLeaf}
 use Rattle.leaf_judging.specs.Choosing.{finite_number, GoesFirst, IsCandidate, IsOneOf, GoesBeforeAll, IsFirstCandidate}
-use Rattle.search_parts.specs.Points.{target}
 use Rattle.sound_searches.specs.Sound.{PlainSearch, formulation_of, IsSound}
 use Rattle.search_gaps.specs.Within.{IsGapTarget, AllClose, CandidateReaches}
 use Rattle.search_gaps.proofs.Rounded.{closed-reaches, open-reaches}

@@ -1,6 +1,6 @@
 -- Why the open leaf that goes first decides: its number q does not reach the best value t, and reaches a target T that is no higher. A closed
 -- leaf whose number p is below t reaches t rounded up, so that the ceiling of q is below p; and T is no more than that ceiling.
-use Rattle.std.specs.Prelude.{◌≡◌, ◌⊎◌, ℤ, Bool, true, false, IsTrue}
+use Rattle.std.specs.Prelude.{◌≡◌, ℤ, Bool, true, false, IsTrue}
 use Rattle.std.proofs.Common.{refl, inl, inr}
 use Rattle.frac128.specs.Rational.{ℚ, int, ◌≤ℚ◌, ◌<ℚ◌, ceil, IsWhole}
 use Rattle.frac128.specs.RationalOrder.{≤ℚ_trans, <ℚ-≤ℚ_trans, ≤ℚ_of_<ℚ, <ℚ_from_not, not_both_ℚ}

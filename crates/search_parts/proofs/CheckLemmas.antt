@@ -1,14 +1,12 @@
 -- The checks of a result's parts.
-use Rattle.std.specs.Prelude.{◌≡◌, ◌↔◌, ℕ, ◌<◌, List, length, get_or, Err, false, ℤ, ◌≤ℤ◌, ◌<ℤ◌}
-use Rattle.std.proofs.Common.{sym, subst, ap, ◌∙◌, arith}
+use Rattle.std.specs.Prelude.{◌↔◌, ◌<◌, Err, ℤ, ◌≤ℤ◌, ◌<ℤ◌}
+use Rattle.std.proofs.Common.{arith}
 use Rattle.std.proofs.lemmas.Int.{ints, by_lt_z}
 use Rattle.frac128.specs.Rational.{ℚ, int, ceil, ◌<ℚ◌}
 use Rattle.frac128.specs.RationalOrder.{not_both_ℚ, <ℚ_from_not}
 use Rattle.frac128.proofs.Rounding.{≤ℚ-int}
-use Rattle.lp_model.specs.Program.{Program, Point, is_integer}
-use Rattle.lp_model.specs.declared.types.Col.{Col}
+use Rattle.lp_model.specs.Program.{Program, Point}
 use Rattle.lp_model.specs.declared.types.WideStep.{WideStep}
-use Rattle.lp_model.proofs.ElementLemmas.{of_element-read}
 use Rattle.model_points.specs.Answers.{IsFeasibilityAnswer}
 use Rattle.search_parts.specs.Points.{IsKeepable}
 

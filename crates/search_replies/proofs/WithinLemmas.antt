@@ -2,7 +2,6 @@
 use Rattle.std.proofs.Common.{◌≡◌, ℕ, sym, subst, inl, inr}
 use Rattle.frac128.specs.Rational.{ℚ}
 use Rattle.lp_model.specs.Program.{Program, Point}
-use Rattle.search_answers.specs.declared.answers.Answer.{Answer}
 use Rattle.search_answers.specs.declared.answers.Answer.TheVariants.{Within, Memory}
 use Rattle.sound_searches.specs.Sound.{PlainSearch}
 use Rattle.search_gaps.specs.Within.{AreLeavesWithin}

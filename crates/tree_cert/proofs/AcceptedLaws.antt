@@ -14,14 +14,14 @@ use Rattle.lp_model.specs.Cuts.{is_live}
 use Rattle.lp_model.specs.declared.types.CutRow.{CutRow}
 use Rattle.leaf_dual.specs.Dual.{Multipliers}
 use Rattle.branch_tree.specs.Tree.{Leaf, Split, left_path, right_path, SplitsLawfully, HasNarrowSplits, EachLeaf}
-use Rattle.branch_tree.specs.Plain.{LeafKept, Plain}
+use Rattle.branch_tree.specs.Plain.{Plain}
 use Rattle.branch_tree.specs.declared.node.LeafState.TheVariants.{IsClosed}
 use Rattle.branch_tree.specs.declared.node.LeafData.{LeafData}
 use Rattle.leaf_judging.specs.declared.closing.LeafNumber.{LeafNumber}
 use Rattle.leaf_judging.specs.declared.closing.LeafNumber.TheVariants as number
 use Rattle.leaf_judging.specs.Closing.{IsRefuted, IsNumber, NumberCloses, StateSays, IsJudgedLeaf, ClosesBy}
 use Rattle.sound_searches.specs.Laws.{HasNoOpenLeaf}
-use Rattle.search_gaps.specs.Within.{IsGapTarget, AllClose, AreLeavesWithin}
+use Rattle.search_gaps.specs.Within.{AreLeavesWithin}
 use Rattle.search_parts.specs.Lists.{AreMultipliers, HasLists, HasNodeLists}
 use Rattle.search_parts.specs.Points.{IsKeepable, target, IsIncumbent, IsIncumbentAt}
 use Rattle.sound_searches.specs.Sound.{PlainSearch, formulation_of, IsSound}
@@ -43,7 +43,7 @@ use Rattle.cert_check.specs.Mults.{AreMults}
 use Rattle.cert_check.specs.Verdict.{IsNumberJudged, IsFarkasJudged, IsNodeJudged, IsPointJudged, IsFeasibleJudged, IsDirectionJudged, IsClaimJudged, visits, AreVisits, IsVisitJudged, IsVerdict}
 use Rattle.cert_text.specs.Whole.{IsNarrowNode, HasLawfulGap, HasNoPoint, HasNoRay, HasNoCuts, AreOneTree, HasTree, IsCertificate}
 use Rattle.cert_check.proofs.PlaceLemmas.{rows_differ}
-use Rattle.tree_cert.specs.Certificates.{claim_of, point_numbers, IsReason, IsTreeOf, IsProofOf, IsCertificateOf, IsCertificateWithin, nonzero_numbers, unbounded_certificate}
+use Rattle.tree_cert.specs.Certificates.{claim_of, point_numbers, IsReason, IsTreeOf, IsProofOf, IsCertificateOf, IsCertificateWithin, unbounded_certificate}
 use Rattle.tree_cert.specs.private.Parts.{HasPartsOf}
 use Rattle.tree_cert.specs.Cuts.{named_cuts, used_number, mults_named, node_mults, IsOfFirst}
 use Rattle.tree_cert.specs.private.Marked.{NodeNamesFirst}

@@ -1,13 +1,13 @@
 -- A result without a point leaves every open leaf open, but that which it is for.
-use Rattle.std.specs.Prelude.{◌≡◌, ◌≢◌, ℕ, ℤ, ◌+◌, ◌≤◌, ◌<◌, Bool, true, false, List, [], Option, Some, None}
+use Rattle.std.specs.Prelude.{◌≡◌, ◌≢◌, ℕ, ℤ, ◌+◌, ◌≤◌, Bool, true, false, List, [], Option, Some, None}
 use Rattle.std.specs.Option.{option_map}
 use Rattle.std.proofs.Common.{sym, ap, ◌∙◌, inl, inr, arith}
 use Rattle.std.proofs.lemmas.Bool.{cases_lt}
 use Rattle.lp_model.specs.Regions.{Path}
 use Rattle.lp_model.specs.declared.types.Basis.{Basis}
 use Rattle.leaf_dual.specs.Dual.{Multipliers}
-use Rattle.branch_tree.specs.Tree.{Leaf, Split}
-use Rattle.branch_tree.specs.Plain.{Plain, LeafKept, leaf_below, leaves_with, data_of, replaced}
+use Rattle.branch_tree.specs.Tree.{Leaf}
+use Rattle.branch_tree.specs.Plain.{Plain, LeafKept, leaves_with, data_of, replaced}
 use Rattle.branch_tree.specs.Leaves.{with_state}
 use Rattle.branch_tree.specs.Numbered.{IsNumbered}
 use Rattle.branch_tree.specs.declared.node.LeafData.{LeafData}
@@ -20,7 +20,7 @@ use Rattle.sound_searches.specs.declared.taken.Taken.{Taken}
 use Rattle.sound_searches.specs.declared.taken.Taken.TheVariants.{Stale, Refused, Reopened, Full, Closed, Split as SplitTaken, Kept}
 use Rattle.sound_searches.specs.Placing.{TakesClose, TakesSplit, TakesKeep, TakesResult, Takes, split_with_leaves, closed_data, with_basis}
 use Rattle.sound_searches.specs.Sound.{PlainSearch}
-use Rattle.tree_manager.specs.Managers.{is_open_data, has_open, HoldsLeaf, AreHeld}
+use Rattle.tree_manager.specs.Managers.{is_open_data, has_open, AreHeld}
 use Rattle.tree_manager.specs.Holdings.{brings_point}
 use Rattle.tree_manager.specs.private.Holdings.{OthersOpen}
 

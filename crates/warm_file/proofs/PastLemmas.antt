@@ -1,7 +1,6 @@
 -- A variable past those before it, and what is read behind it.
 use Rattle.std.specs.Prelude.{◌≡◌, ℕ, Bool, true, false, if◌then◌else◌, List, Result, Ok, Err}
 use Rattle.std.proofs.Common.{refl, sym, subst, ap, ◌∙◌}
-use Rattle.frac128.specs.Rational.{ℚ}
 use Rattle.lp_model.specs.declared.types.Var.{Var}
 use Rattle.serde_json.specs.Data.{Data}
 use Rattle.warm_file.specs.Faults.{Fault, fault, behind, at_item}

@@ -14,7 +14,6 @@ use Rattle.lp_model.specs.declared.types.Col.{Col}
 use Rattle.branch_tree.specs.declared.node.NodeData.{NodeData}
 use Rattle.serde_json.specs.Find.{get}
 use Rattle.search_data.specs.declared.data.SearchData.{SearchData}
-use Rattle.lp_model.specs.declared.types.Derivation.{Derivation}
 use Rattle.serde_json.specs.Data.{Data, boolean, null, string}
 use Rattle.warm_file.specs.Faults.{Fault, or_fault, behind, at_key}
 use Rattle.warm_file.specs.Values.{truth_of, member, at_most_items}

@@ -1,6 +1,6 @@
 -- Where what is written of a tree is read without fault, it is that tree.
-use Rattle.std.specs.Prelude.{◌≡◌, ◌&&◌, true, List, [], ◌∷◌, ◌++◌, codes, pos, is_some, All, Some, Result, Ok}
-use Rattle.std.proofs.Common.{refl, sym, ap, subst, ◌∙◌, arith}
+use Rattle.std.specs.Prelude.{◌≡◌, List, [], ◌∷◌, pos, All, Result, Ok}
+use Rattle.std.proofs.Common.{ap, ◌∙◌, arith}
 use Rattle.std.proofs.lemmas.List.Elements.{All-nil}
 use Rattle.frac128.specs.Rational.{ℚ, int}
 use Rattle.frac128.specs.Range.{Fits}
@@ -12,22 +12,20 @@ use Rattle.branch_tree.specs.Preorder.{SplitData}
 use Rattle.branch_tree.specs.declared.node.NodeData.{NodeData}
 use Rattle.branch_tree.specs.declared.node.NodeData.TheVariants.{Split, Leaf}
 use Rattle.search_data.specs.Trees.{is_one_tree}
-use Rattle.search_data.specs.declared.data.SearchData.{SearchData}
-use Rattle.serde_json.specs.Data.{Data, null, array}
-use Rattle.node_differences.specs.Told.{no_lists, node_lists, told_node, told_nodes, rebuilt}
-use Rattle.node_differences.specs.Differences.{difference}
+use Rattle.serde_json.specs.Data.{Data, null}
+use Rattle.node_differences.specs.Told.{node_lists, told_node, told_nodes, rebuilt}
 use Rattle.node_differences.proofs.KeptLaws.{each-difference}
 use Rattle.node_differences.proofs.TreeLaws.{nodes-again}
 use Rattle.warm_file.specs.Faults.{Fault, or_fault, behind, at_key}
-use Rattle.warm_file.specs.Values.{each, list_of, at_most_items}
+use Rattle.warm_file.specs.Values.{list_of, at_most_items}
 use Rattle.warm_file.specs.declared.rising.Counts.{Counts}
-use Rattle.warm_file.specs.Searches.{is_told, node_of, nodes_of, stated_nodes, nodes_told, with_nodes, whole_search}
-use Rattle.warm_file.proofs.Inversions.{next-ok, at_most-ok}
-use Rattle.warm_writer.specs.Written.{node_json, nodes_json, tree_json}
+use Rattle.warm_file.specs.Searches.{is_told, node_of, stated_nodes, nodes_told, with_nodes, whole_search}
+use Rattle.warm_file.proofs.Inversions.{at_most-ok}
+use Rattle.warm_writer.specs.Written.{node_json, tree_json}
 use Rattle.warm_writer.specs.Writable.{HasNarrowSplit, NodeFits}
 use Rattle.warm_writer.proofs.Alone.{IsAlone, alone-is, alone-few, alone-then}
 use Rattle.warm_writer.proofs.NodesAlone.{node-alone}
-use Rattle.warm_writer.proofs.TreeTold.{CanBeTold, IsReadAs, all-read}
+use Rattle.warm_writer.proofs.TreeTold.{CanBeTold, all-read}
 
 abbrev HasRoom : Var × ℚ → Type 0
 HasRoom e = Fits e.1

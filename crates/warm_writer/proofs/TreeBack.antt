@@ -1,5 +1,5 @@
 -- A writable tree is read back: its nodes are told, read, and had again.
-use Rattle.std.specs.Prelude.{◌≡◌, ◌≢◌, ℕ, zero, suc, ◌<◌, ◌≤◌, ◌^◌, Bool, true, false, ◌&&◌, not, List, [], ◌∷◌, ◌++◌, map, length, get_or, pos, All, Result, Ok}
+use Rattle.std.specs.Prelude.{◌≡◌, ℕ, zero, suc, ◌≤◌, true, false, ◌&&◌, not, List, [], ◌∷◌, ◌++◌, map, length, get_or, pos, All, Ok}
 use Rattle.std.specs.List.{list_all}
 use Rattle.std.proofs.Common.{refl, sym, ap, ap₂, subst, ◌∙◌, arith}
 use Rattle.std.proofs.lemmas.List.Elements.{All-nil, All-cons, All-head, All-tail}
@@ -12,14 +12,13 @@ use Rattle.lp_model.specs.declared.types.Var.{Var}
 use Rattle.branch_tree.specs.Preorder.{SplitData}
 use Rattle.branch_tree.specs.declared.node.NodeData.{NodeData}
 use Rattle.branch_tree.specs.declared.node.NodeData.TheVariants.{Split, Leaf}
-use Rattle.node_differences.specs.Differences.{gone, differing, difference, changed}
+use Rattle.node_differences.specs.Differences.{differing, difference, changed}
 use Rattle.node_differences.specs.Order.{are_rising}
 use Rattle.node_differences.specs.Told.{no_lists, node_lists, told_node, due_behind, told_nodes, are_told_variables, are_told_multipliers, is_told_node}
 use Rattle.node_differences.proofs.KeptLaws.{variables-rise, each-variable, differences-rise, each-difference, multipliers-rise, each-multiplier}
 use Rattle.node_differences.proofs.OrderLemmas.{both_true}
 use Rattle.frac128.proofs.Comparison.{eq_by_cmp-decides}
 use Rattle.warm_file.specs.Values.{at_most_items, list_of}
-use Rattle.warm_file.specs.Rising.{variable_rank}
 use Rattle.warm_file.specs.declared.rising.Counts.{Counts}
 use Rattle.warm_file.specs.Searches.{is_told, node_of}
 use Rattle.warm_writer.specs.Written.{list_json, node_json}

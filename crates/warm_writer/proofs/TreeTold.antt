@@ -1,5 +1,5 @@
 -- What is written of a tree: nodes that are told, one by one, where all of them can be.
-use Rattle.std.specs.Prelude.{◌≡◌, ℕ, ◌==◌, ◌&&◌, Bool, true, false, if◌then◌else◌, nat_lt, List, [], ◌∷◌, ◌++◌, map, length, decimal, codes, All, Result, Ok, Err}
+use Rattle.std.specs.Prelude.{◌≡◌, Bool, true, false, if◌then◌else◌, List, [], ◌∷◌, ◌++◌, map, length, decimal, All, Result, Ok}
 use Rattle.std.proofs.Common.{refl, sym, ap, ap₂, subst, ◌∙◌, append_assoc, append-nil}
 use Rattle.std.proofs.lemmas.List.Elements.{All-nil, All-cons, All-head, All-tail}
 use Rattle.frac128.specs.Rational.{ℚ}
@@ -8,10 +8,10 @@ use Rattle.lp_model.specs.declared.types.Var.{Var}
 use Rattle.branch_tree.specs.Preorder.{SplitData}
 use Rattle.branch_tree.specs.declared.node.NodeData.{NodeData}
 use Rattle.branch_tree.specs.declared.node.NodeData.TheVariants.{Split, Leaf}
-use Rattle.serde_json.specs.Data.{Data, Items, null, item, no_items}
+use Rattle.serde_json.specs.Data.{Data, null, item}
 use Rattle.serde_json.specs.View.{items_of}
 use Rattle.node_differences.specs.Told.{no_lists, node_lists, with_lists, told_lists, told_node, due_behind, told_nodes, is_told_node}
-use Rattle.warm_file.specs.Faults.{Fault, behind, at_item}
+use Rattle.warm_file.specs.Faults.{Fault, at_item}
 use Rattle.warm_file.specs.Values.{each}
 use Rattle.warm_file.proofs.Inversions.{next-ok, key-ok}
 use Rattle.warm_writer.specs.Written.{node_json, told_json, nodes_json}

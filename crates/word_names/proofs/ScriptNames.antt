@@ -1,6 +1,6 @@
 -- The names of a model that scripts may have are words of a line.
 use Rattle.std.proofs.Common.{◌≡◌, ℕ, ◌<◌, arith, Bool, true, false, ◌&&◌, List, [], ◌∷◌, map, length, refl, sym, subst}
-use Rattle.std.specs.Prelude.{nat_lt, nat_le, All}
+use Rattle.std.specs.Prelude.{nat_le, All}
 use Rattle.std.specs.List.{list_all}
 use Rattle.std.proofs.lemmas.Bool.Decides.{nat_tests}
 use Rattle.std.proofs.lemmas.List.{length-map, get_or-map}

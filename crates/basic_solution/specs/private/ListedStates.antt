@@ -2,7 +2,6 @@
 use Rattle.std.specs.Prelude.{ℕ, Bool, true, false, IsTrue, ◌↔◌, get_or, Result, Ok, Err}
 use Rattle.lp_model.specs.declared.types.Basis.{Basis}
 use Rattle.lp_model.specs.declared.types.WideStep.{WideStep}
-use Rattle.table_entries.specs.declared.stand.Stand.{Stand}
 use Rattle.table_entries.specs.declared.stand.Stand.TheVariants.{Free}
 use Rattle.table_entries.specs.Bases.{IsNamedBy}
 use Rattle.row_tableau.specs.Variables.{numbers}

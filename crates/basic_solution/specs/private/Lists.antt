@@ -2,9 +2,8 @@
 use Rattle.std.specs.Prelude.{◌≡◌, ℕ, List, All}
 use Rattle.frac128.specs.Rational.{ℚ}
 use Rattle.lp_model.specs.declared.types.Var.{Var}
-use Rattle.table_entries.specs.Bases.{Lists}
 use Rattle.row_tableau.specs.Variables.{numbers, variable_number}
-use Rattle.basic_solution.specs.Held.{Held, variables}
+use Rattle.basic_solution.specs.Held.{Held}
 use Rattle.basic_solution.specs.Lists.{AreRising, names, HasMultiplier}
 
 -- likewise those of the variables below n alone

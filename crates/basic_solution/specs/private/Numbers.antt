@@ -1,5 +1,5 @@
 -- What contracts of private functions alone cite, beside specs/Numbers.
-use Rattle.std.specs.Prelude.{◌≡◌, ℕ, Option, Result, Ok, Err}
+use Rattle.std.specs.Prelude.{◌≡◌, ℕ, Result, Ok, Err}
 use Rattle.frac128.specs.Rational.{ℚ}
 use Rattle.lp_model.specs.declared.types.WideStep.{WideStep}
 use Rattle.table_entries.specs.Relaxation.{reduced_cost}

@@ -2,7 +2,7 @@
 use Rattle.std.specs.Prelude.{◌≡◌, ℕ, Option, Some, None}
 use Rattle.table_entries.specs.declared.stand.Stand.{Stand}
 use Rattle.table_entries.specs.States.{LawfulAt, reduced_parts}
-use Rattle.basic_solution.specs.Held.{Held, relaxation, parts, table, variables}
+use Rattle.basic_solution.specs.Held.{Held, relaxation, parts, table}
 use Rattle.basic_solution.specs.Slack.{CanStand, IsPlaced}
 
 -- it cannot stand where it is asked to

@@ -1,5 +1,4 @@
 -- What contracts of private functions alone cite, beside specs/Preorder.
-use Rattle.std.specs.Prelude.{◌-◌}
 use Rattle.branch_tree.specs.Tree.{Leaf, Split}
 use Rattle.branch_tree.specs.declared.node.Node.{Node}
 use Rattle.branch_tree.specs.declared.node.Node.TheVariants as node

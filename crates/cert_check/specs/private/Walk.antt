@@ -3,22 +3,17 @@ use Rattle.std.specs.Prelude.{◌≡◌, Bool, true, false, ◌++◌, List, [], 
 use Rattle.frac128.specs.Range.{IsNarrow}
 use Rattle.lp_model.specs.Regions.{Path, at_most}
 use Rattle.lp_model.specs.Formulations.{Formulation}
-use Rattle.lp_model.specs.declared.types.Side.{Side}
 use Rattle.lp_model.specs.declared.types.Side.TheVariants.{Hi}
 use Rattle.lp_model.specs.declared.types.BoundChange.{BoundChange}
 use Rattle.cert_text.specs.declared.cert.Claim.{Claim}
 use Rattle.cert_text.specs.declared.cert.Claim.TheVariants.{Optimal, Within, Infeasible, Unbounded}
-use Rattle.cert_text.specs.declared.cert.CertNode.{CertNode}
 use Rattle.cert_check.specs.declared.verdict.Judgement.{Judgement}
 use Rattle.cert_check.specs.declared.verdict.Judgement.TheVariants.{Breaks}
-use Rattle.cert_check.specs.declared.verdict.Verdict.{Verdict}
-use Rattle.cert_check.specs.declared.verdict.Verdict.TheVariants.{Accepted}
 use Rattle.cert_check.specs.declared.judging.NodeWithPlaces.{NodeWithPlaces}
 use Rattle.cert_check.specs.declared.judging.NodeWithPlaces.TheVariants.{Misnamed, Split, Bound, Farkas, Empty}
 use Rattle.cert_text.specs.Tree.{CertTree, certificate_nodes}
 use Rattle.cert_check.specs.Verdict.{IsNumberJudged, IsFarkasJudged, IsEmptyJudged, IsKindJudged}
 use Rattle.cert_text.specs.Whole.{IsNarrowNode}
-use Rattle.tight_regions.specs.Tight.{room}
 use Rattle.cert_check.specs.Walk.{after_leaf, AreNodesPlaced}
 
 abbrev pub IsPlacedJudged : Formulation → Claim → Path → NodeWithPlaces → Judgement → Type 0

@@ -1,6 +1,5 @@
 -- What contracts of private functions alone cite, beside specs/Checking.
-use Rattle.std.specs.Prelude.{◌≡◌, ◌⊎◌, ℕ, true, List, [], ◌++◌, Option, Err}
-use Rattle.frac128.specs.Printing.{printed}
+use Rattle.std.specs.Prelude.{◌≡◌, ◌⊎◌, ℕ, List, [], ◌++◌, Option, Err}
 use Rattle.sym_io.specs.Files.{Files}
 use Rattle.lp_model.specs.Program.{Program}
 use Rattle.cert_check.specs.Verdict.{IsVerdict}

@@ -1,12 +1,11 @@
 -- What contracts of private functions alone cite, beside specs/Greedy.
-use Rattle.std.specs.Prelude.{◌≡◌, ℕ, ◌<◌, Bool, true, false, List, length, Option, Some, None, Result}
-use Rattle.std.specs.declared.cmp.Ordering.{Ordering}
+use Rattle.std.specs.Prelude.{◌≡◌, ℕ, Bool, true, false, List, length, Option, Some, None, Result}
 use Rattle.frac128.specs.Rational.{ℚ}
 use Rattle.lp_model.specs.Program.{Program, Point}
 use Rattle.lp_model.specs.declared.types.Side.{Side}
 use Rattle.lp_model.specs.declared.types.WideStep.{WideStep}
 use Rattle.cover_cuts.specs.Answers.{IsValidAnswer}
-use Rattle.cut_find.specs.Greedy.{gap, HasWideGap, AreCandidates, cover_of, by_answer, places_without}
+use Rattle.cut_find.specs.Greedy.{HasWideGap, AreCandidates, cover_of, by_answer, places_without}
 
 -- the list, if it counts
 abbrev pub list_if : {X : Type 0} → Bool → List X → Option (List X)

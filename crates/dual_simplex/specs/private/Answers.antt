@@ -1,6 +1,5 @@
 -- What contracts of private functions alone cite, beside specs/Answers.
 use Rattle.std.specs.Prelude.{◌≡◌, ℕ, ◌<◌, Option, Some, None, Result, Ok, Err}
-use Rattle.std.specs.declared.cmp.Ordering.{Ordering}
 use Rattle.frac128.specs.Rational.{ℚ}
 use Rattle.lp_model.specs.declared.types.WideStep.{WideStep}
 use Rattle.table_entries.specs.declared.stand.Stand.{Stand}

@@ -1,10 +1,8 @@
 -- What contracts of private functions alone cite, beside specs/Solves.
-use Rattle.std.specs.Prelude.{◌≡◌, ◌-◌, ◌≤◌, List, Result, Ok, Err}
+use Rattle.std.specs.Prelude.{◌≡◌, List, Result, Ok, Err}
 use Rattle.std.specs.declared.alloc.AllocError.{AllocError}
 use Rattle.frac128.specs.Rational.{ℚ}
 use Rattle.lp_model.specs.declared.types.Var.{Var}
-use Rattle.table_entries.specs.Relaxation.{Solves, multipliers}
-use Rattle.dual_simplex.specs.Walks.{Moves}
 use Rattle.lp_model.specs.declared.types.WideStep.{WideStep}
 use Rattle.lp_model.specs.declared.types.Basis.{Basis}
 use Rattle.dual_simplex.specs.declared.solve.Lp.{Lp}

@@ -1,16 +1,10 @@
 -- What contracts of private functions alone cite, beside specs/EditWords.
 use Rattle.std.specs.Prelude.{ℕ, List, codes, if◌then◌else◌, Option, Some, None}
 use Rattle.std.specs.Str.{bytes_eq}
-use Rattle.frac_text.specs.declared.numeral.Side.{Side}
-use Rattle.lp_model.specs.declared.types.Edit.{Edit}
 use Rattle.lp_model.specs.declared.types.Edit.TheVariants.{AddCol, DelCol, AddRow, DelRow, ReplaceRow}
-use Rattle.edit_words.specs.declared.forms.Slot.{Slot}
 use Rattle.edit_words.specs.declared.kinds.EditKind.{EditKind}
 use Rattle.edit_words.specs.declared.kinds.EditKind.TheVariants as kind
-use Rattle.edit_words.specs.declared.asked.RowPlace.{RowPlace}
-use Rattle.edit_words.specs.declared.asked.EditAsked.{EditAsked}
 use Rattle.edit_words.specs.declared.asked.EditAsked.TheVariants as asked
-use Rattle.edit_words.specs.declared.entries.Entries.{Entries}
 use Rattle.edit_words.specs.declared.entries.Entries.TheVariants as entries
 
 -- the kinds that add, remove or replace a whole column or row

@@ -1,10 +1,8 @@
 -- What contracts of private functions alone cite, beside specs/Sides.
 use Rattle.std.specs.Prelude.{◌≢◌, ◌<◌, ◌≤◌, ◌-◌, ◌^◌, ℕ, Bool, if◌then◌else◌, List, [], ◌∷◌}
 use Rattle.frac128.specs.Rational.{ℚ, rational_le}
-use Rattle.frac_text.specs.Spelling.{Number, Wide}
 use Rattle.frac_text.specs.declared.numeral.Side.{Side}
 use Rattle.frac_text.specs.declared.numeral.Side.TheVariants.{Above, Between, Below}
-use Rattle.frac_text.specs.declared.numeral.Numeral.{Numeral}
 use Rattle.frac_text.specs.Sides.{far}
 
 -- whether a magnitude is 10^20 or more

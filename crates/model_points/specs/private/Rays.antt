@@ -1,5 +1,5 @@
 -- What contracts of private functions alone cite, beside specs/Rays.
-use Rattle.std.specs.Prelude.{ℕ, ◌<◌, Bool, true, false, length, Result, Ok, Err}
+use Rattle.std.specs.Prelude.{ℕ, Bool, true, false, length, Result, Ok, Err}
 use Rattle.lp_model.specs.Program.{Program, Point}
 use Rattle.lp_model.specs.declared.types.WideStep.{WideStep}
 use Rattle.model_points.specs.Rays.{RowsAreKept, IsFirstPassed, IsFirstWideSum}

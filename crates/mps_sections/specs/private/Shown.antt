@@ -2,7 +2,6 @@
 use Rattle.std.specs.Prelude.{◌+◌, List, ◌++◌, map, option_to_list}
 use Rattle.mps_sections.specs.Statements.{StatedModel}
 use Rattle.mps_sections.specs.declared.statements.ColumnLines.{ColumnLines}
-use Rattle.mps_fields.specs.declared.words.LineKind.{LineKind}
 use Rattle.mps_sections.specs.declared.columns.OpenColumn.{OpenColumn}
 use Rattle.mps_sections.specs.declared.columns.Columns.{Columns}
 use Rattle.mps_sections.specs.declared.tables.Tables.{Tables}

@@ -1,8 +1,6 @@
 -- What contracts of private functions alone cite, beside specs/Places.
 use Rattle.std.specs.Prelude.{◌≡◌, ℕ, zero, suc, List, [], ◌∷◌, ◌<◌, ◌≤◌, length, get_or, take}
 use Rattle.lp_model.specs.declared.types.CutRow.{CutRow}
-use Rattle.lp_model.specs.declared.types.Var.{Var}
-use Rattle.branch_tree.specs.declared.node.NodeResult.{NodeResult}
 use Rattle.node_solve.specs.Places.{live_cuts, live_places}
 
 -- so many places, from k on

@@ -12,7 +12,6 @@ use Rattle.lp_model.specs.declared.types.WideStep.{WideStep}
 use Rattle.dual_simplex.specs.Solves.{IsLpInfeasible}
 use Rattle.node_solve.specs.declared.rounds.Solved.{Solved}
 use Rattle.node_solve.specs.declared.rounds.Solved.TheVariants as solved
-use Rattle.node_solve.specs.declared.working.Worked.{Worked}
 use Rattle.node_solve.specs.declared.working.Worked.TheVariants.{Pivots, Wide, Memory}
 use Rattle.node_solve.specs.Rounds.{Work, Round, first_in, form_in, RunsTo, AddsCovers, MayGoOn, IsLastAt}
 

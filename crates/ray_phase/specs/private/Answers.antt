@@ -1,5 +1,5 @@
 -- What contracts of private functions alone cite, beside specs/Answers.
-use Rattle.std.specs.Prelude.{ℕ, ◌<◌, ◌≤◌, List, Ok}
+use Rattle.std.specs.Prelude.{ℕ, List, Ok}
 use Rattle.frac128.specs.Rational.{ℚ}
 use Rattle.lp_model.specs.Program.{Program, Point}
 use Rattle.lp_model.specs.declared.types.Var.{Var}
@@ -8,7 +8,6 @@ use Rattle.basic_solution.specs.Held.{Held, IsLawfulHeld}
 use Rattle.basic_solution.specs.Slack.{IsStateOfRelax}
 use Rattle.dual_simplex.specs.declared.solve.Lp.{Lp}
 use Rattle.dual_simplex.specs.Solves.{IsLpOptimum, IsSolved}
-use Rattle.ray_phase.specs.declared.phase.RayAnswer.{RayAnswer}
 use Rattle.ray_phase.specs.Answers.{AreDirections, IsStart}
 
 -- a state of the directions

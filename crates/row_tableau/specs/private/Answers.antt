@@ -5,7 +5,6 @@ use Rattle.table_entries.specs.Relaxation.{Agree, pivoted}
 use Rattle.table_entries.specs.Bases.{Found, MayLeave}
 use Rattle.table_entries.specs.Steps.{ExchangeFits}
 use Rattle.row_tableau.specs.Dense.{Dense, table_of}
-use Rattle.row_tableau.specs.declared.position.Position.{Position}
 use Rattle.row_tableau.specs.Answers.{IsBasic, IsWidePivot}
 
 abbrev pub IsNonbasic : Dense → ℕ → Type 0

@@ -4,7 +4,6 @@ use Rattle.lp_model.specs.Program.{Program}
 use Rattle.lp_model.specs.declared.types.CutRow.{CutRow}
 use Rattle.lp_model.specs.declared.types.Derivation.{Derivation}
 use Rattle.cover_cuts.specs.Cuts.{IsPoolOf}
-use Rattle.branch_tree.specs.declared.node.NodeData.{NodeData}
 use Rattle.kept_cuts.specs.Kept.{derivations_of}
 
 -- the pool has the cuts of these derivations, in their order

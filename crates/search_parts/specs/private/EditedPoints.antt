@@ -1,8 +1,7 @@
 -- What contracts of private functions alone cite, beside specs/EditedPoints.
-use Rattle.std.specs.Prelude.{◌≡◌, ◌⊎◌, List, [], ◌∷◌, ◌++◌, Option}
+use Rattle.std.specs.Prelude.{◌≡◌, ◌⊎◌, List, [], ◌∷◌, ◌++◌}
 use Rattle.frac128.specs.Rational.{ℚ}
 use Rattle.lp_model.specs.Program.{Program, Point, least_value}
-use Rattle.lp_model.specs.declared.types.Edit.{Edit}
 use Rattle.search_parts.specs.Points.{IsKeepable}
 
 -- the point is added, where it may be kept, with its value

@@ -7,7 +7,6 @@ use Rattle.lp_model.specs.declared.types.Row.{Row}
 use Rattle.lp_model.specs.declared.types.RowId.{RowId}
 use Rattle.model_edits.specs.Faults.{IsFirstUnknown}
 use Rattle.dual_bounds.specs.NewNumbers.{HasEqualSides}
-use Rattle.command_words.specs.declared.words.NewNumbers.{NewNumbers}
 use Rattle.edit_words.specs.EditWords.{names_in}
 use Rattle.shell_replies.specs.Names.{placed_in}
 use Rattle.shell_replies.specs.declared.placing.Unplaced.{Unplaced}

@@ -1,7 +1,6 @@
 -- What contracts of private functions alone cite, beside specs/Tight.
 use Rattle.std.specs.Prelude.{ℕ, suc, if◌then◌else◌, [], ◌∷◌}
 use Rattle.lp_model.specs.Regions.{Path}
-use Rattle.lp_model.specs.declared.types.Side.{Side}
 use Rattle.lp_model.specs.declared.types.BoundChange.{BoundChange}
 use Rattle.tight_regions.specs.Tight.{are_rivals}
 

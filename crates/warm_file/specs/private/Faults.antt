@@ -2,7 +2,7 @@
 use Rattle.std.specs.Prelude.{◌≡◌, Result, Ok, Err}
 use Rattle.warm_file.specs.declared.fault.WarmFault.{WarmFault}
 use Rattle.warm_file.specs.declared.fault.WarmFault.TheVariants.{Bad, Memory}
-use Rattle.warm_file.specs.Faults.{Fault, fault}
+use Rattle.warm_file.specs.Faults.{Fault}
 
 -- the answer is what is stated, or its first fault, or there is no memory
 abbrev pub SaysFault : {A : Type 0} → Result A Fault → Result A WarmFault → Type 0

@@ -1,7 +1,6 @@
 -- What contracts of private functions alone cite, beside specs/Searches.
 use Rattle.std.specs.Prelude.{ℕ, if◌then◌else◌, List, codes, Result, Ok}
 use Rattle.frac128.specs.Rational.{ℚ}
-use Rattle.branch_tree.specs.declared.node.LeafState.{LeafState}
 use Rattle.search_data.specs.Trees.{is_one_tree}
 use Rattle.branch_tree.specs.declared.node.NodeData.{NodeData}
 use Rattle.serde_json.specs.Data.{Data}

@@ -1,4 +1,4 @@
-use Rattle.std.specs.Prelude.{◌≡◌, ◌+◌, ◌*◌, ◌≤◌}
+use Rattle.std.specs.Prelude.{◌≡◌, ◌*◌, ◌≤◌}
 use Rattle.std.proofs.Common.{arith}
 use Rattle.bench_models.specs.BenchModels.{total}
 use Rattle.bench_models.proofs.NextLemmas.{total-most}

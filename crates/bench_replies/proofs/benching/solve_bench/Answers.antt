@@ -2,7 +2,7 @@ use Rattle.std.proofs.Common.{sym, subst}
 use Rattle.std.proofs.lemmas.Result.{IfOk-weaker}
 use Rattle.tree_search.specs.Within.{IsGapLimit}
 use Rattle.tree_search.specs.declared.limits.Limits.{Limits}
-use Rattle.search_replies.proofs.ReplyLemmas.{is-solved, solved-shaped}
+use Rattle.search_replies.proofs.ReplyLemmas.{is-solved}
 use Rattle.bench_replies.specs.Benches.{bench_options}
 use Rattle.bench_replies.proofs.BenchLemmas.{benched}
 use Rattle.bench_replies.proofs.benching.solve_bench.Goals as goal

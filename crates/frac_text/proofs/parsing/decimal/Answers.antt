@@ -1,4 +1,4 @@
-use Rattle.std.proofs.Common.{◌≡◌, ◌<◌, ◌++◌, ℕ, sym, ap, subst, ◌∙◌}
+use Rattle.std.proofs.Common.{◌<◌, ℕ, sym, ap, subst, ◌∙◌}
 use Rattle.frac128.specs.Range.{largest}
 use Rattle.frac_text.specs.Spelling.{value_of}
 use Rattle.frac_text.specs.private.Parts.{decimal_coefficient, decimal_power}

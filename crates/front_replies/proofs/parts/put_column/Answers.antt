@@ -1,4 +1,4 @@
-use Rattle.std.proofs.Common.{◌≡◌, ℕ, List, ◌++◌, ◌∙◌, ap, subst}
+use Rattle.std.proofs.Common.{◌≡◌, ℕ, List, ◌++◌, subst}
 use Rattle.std.specs.Prelude.{codes, IfOk}
 use Rattle.lp_model.specs.Lawful.{column_name}
 use Rattle.reply_texts.proofs.TextLemmas.{join_piece}

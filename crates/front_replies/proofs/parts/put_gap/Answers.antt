@@ -1,6 +1,4 @@
-use Rattle.std.proofs.Common.{◌≡◌, ◌++◌, ◌∙◌, ap, subst, sym}
 use Rattle.std.specs.Prelude.{codes}
-use Rattle.cert_writer.proofs.PutLaws.{words_last, behind_last}
 use Rattle.front_replies.specs.FrontReplies.{value_words}
 use Rattle.front_replies.proofs.RowLaws.{two_behind_last}
 use Rattle.front_replies.proofs.parts.put_gap.Goals as goal

@@ -1,5 +1,5 @@
-use Rattle.std.proofs.Common.{◌≡◌, ℕ, List, ◌++◌, ◌∙◌, ap, subst}
-use Rattle.std.specs.Prelude.{codes, IfOk}
+use Rattle.std.proofs.Common.{ℕ, List, ◌++◌, ◌∙◌, ap}
+use Rattle.std.specs.Prelude.{codes}
 use Rattle.cert_writer.specs.CertText.{line_text}
 use Rattle.reply_texts.specs.Texts.{part_stop_text}
 use Rattle.reply_texts.proofs.TextLemmas.{join_piece, join_last}

@@ -140,23 +140,23 @@ returns-else-has_short_terms-clause-steps g c = c.walk.ensures.steps
 pub returns-else-has_short_terms-clause-over : goal.returns-else-has_short_terms-clause-over
 returns-else-has_short_terms-clause-over g c = tt
 
-pub returns-else-seeks-clause-walk : goal.returns-else-seeks-clause-walk
-returns-else-seeks-clause-walk g c = c.in-None.ensures.walk
+pub returns-else-seeks_short-clause-walk : goal.returns-else-seeks_short-clause-walk
+returns-else-seeks_short-clause-walk g c = c.in-None.ensures.walk
 
-pub returns-else-seeks-clause-kept : goal.returns-else-seeks-clause-kept
-returns-else-seeks-clause-kept g c = c.walk.ensures.kept
+pub returns-else-seeks_short-clause-kept : goal.returns-else-seeks_short-clause-kept
+returns-else-seeks_short-clause-kept g c = c.walk.ensures.kept
 
-pub returns-else-seeks-clause-room : goal.returns-else-seeks-clause-room
-returns-else-seeks-clause-room g c = c.walk.ensures.room
+pub returns-else-seeks_short-clause-room : goal.returns-else-seeks_short-clause-room
+returns-else-seeks_short-clause-room g c = c.walk.ensures.room
 
-pub returns-else-seeks-clause-rises : goal.returns-else-seeks-clause-rises
-returns-else-seeks-clause-rises g c = c.walk.ensures.rises
+pub returns-else-seeks_short-clause-rises : goal.returns-else-seeks_short-clause-rises
+returns-else-seeks_short-clause-rises g c = c.walk.ensures.rises
 
-pub returns-else-seeks-clause-steps : goal.returns-else-seeks-clause-steps
-returns-else-seeks-clause-steps g c = c.walk.ensures.steps
+pub returns-else-seeks_short-clause-steps : goal.returns-else-seeks_short-clause-steps
+returns-else-seeks_short-clause-steps g c = c.walk.ensures.steps
 
-pub returns-else-seeks-clause-over : goal.returns-else-seeks-clause-over
-returns-else-seeks-clause-over g c = tt
+pub returns-else-seeks_short-clause-over : goal.returns-else-seeks_short-clause-over
+returns-else-seeks_short-clause-over g c = tt
 
 pub slice_bounds-row_places-end : goal.slice_bounds-row_places-end
 slice_bounds-row_places-end g c = let m = c.min.ensures in omega (arith, m)

@@ -1,4 +1,3 @@
-use Rattle.std.specs.Prelude.{Some}
 use Rattle.std.proofs.Common.{subst, inr}
 use Rattle.dual_simplex.specs.SlackBases.{IsLawfulSlackBasis, IsSlackBasisAnswer}
 use Rattle.relaxation_rows.proofs.firsts.first_basis.Goals as goal

@@ -1,4 +1,4 @@
-use Rattle.std.specs.Prelude.{◌≤◌, length, IfSome}
+use Rattle.std.specs.Prelude.{length, IfSome}
 use Rattle.std.proofs.Common.{ap, subst, arith}
 use Rattle.lp_model.specs.Formulations.{formulation}
 use Rattle.relaxation_rows.specs.Firsts.{CanFallBack}

@@ -1,4 +1,4 @@
-use Rattle.std.specs.Prelude.{◌≤◌, length}
+use Rattle.std.specs.Prelude.{length}
 use Rattle.std.proofs.Common.{ap, arith}
 use Rattle.relaxation_rows.proofs.starting.slack.Goals as goal
 

@@ -1,4 +1,3 @@
-use Rattle.std.proofs.Common.{◌++◌}
 use Rattle.reply_texts.proofs.TextLemmas.{join_piece}
 use Rattle.reply_texts.proofs.pieces.write_two.Goals as goal
 

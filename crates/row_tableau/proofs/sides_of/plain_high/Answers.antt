@@ -1,4 +1,4 @@
-use Rattle.std.proofs.Common.{◌<◌, ◌≤◌, ◌∙◌, ap, arith, length}
+use Rattle.std.proofs.Common.{◌≤◌, ◌∙◌, ap, arith, length}
 use Rattle.lp_model.specs.Regions.{region_high}
 use Rattle.row_tableau.specs.Activities.{activity_high}
 use Rattle.row_tableau.specs.Relaxations.{form_of}

@@ -1,4 +1,4 @@
-use Rattle.std.proofs.Common.{◌≡◌, ◌<◌, ◌≤◌, ◌*◌, ◌+◌, ◌-◌, ℕ, [], refl, sym, ap, subst, arith, length, drop, get_or, pos, ◌∙◌, to_z, of_z, w64}
+use Rattle.std.proofs.Common.{◌≡◌, ◌<◌, ◌≤◌, ◌*◌, ◌+◌, ◌-◌, [], refl, sym, ap, subst, arith, length, drop, get_or, pos, ◌∙◌, to_z, of_z, w64}
 use Rattle.std.proofs.lemmas.List.{drop_all, length-map}
 use Rattle.frac128.specs.Rational.{int}
 use Rattle.frac128.specs.LowestTerms.{quotient_of}

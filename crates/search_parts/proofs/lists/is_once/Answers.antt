@@ -1,4 +1,4 @@
-use Rattle.std.proofs.Common.{◌≡◌, ◌<◌, IsTrue, ap, ◌∙◌, true, false, get_or, set, length, length-set, arith}
+use Rattle.std.proofs.Common.{◌<◌, IsTrue, ap, ◌∙◌, true, false, get_or, length, length-set, arith}
 use Rattle.lp_model.specs.declared.types.Var.TheVariants.{Col}
 use Rattle.lp_model.specs.declared.types.Var.{Var}
 use Rattle.search_parts.specs.private.Marks.{mark_index}

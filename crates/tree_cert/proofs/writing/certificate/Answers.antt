@@ -1,11 +1,10 @@
 use Rattle.std.specs.Prelude.{Result, Ok, Err, IfOk}
-use Rattle.std.proofs.Common.{subst, ◌∙◌}
+use Rattle.std.proofs.Common.{subst}
 use Rattle.lp_model.specs.Lawful.{IsLawful}
 use Rattle.cert_text.specs.declared.cert.Cert.{Cert}
 use Rattle.cert_text.specs.Whole.{IsCertificate}
 use Rattle.cert_check.specs.Verdict.{IsVerdict}
 use Rattle.cert_check.specs.declared.verdict.Verdict.TheVariants.{Accepted}
-use Rattle.sound_searches.specs.Sound.{PlainSearch}
 use Rattle.tree_cert.specs.Certificates.{IsCertificateOf}
 use Rattle.tree_cert.specs.private.Parts.{HasPartsOf}
 use Rattle.tree_cert.proofs.AcceptedLaws.{is_certificate, is_accepted, certificate_from}

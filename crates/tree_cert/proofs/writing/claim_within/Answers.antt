@@ -1,4 +1,4 @@
-use Rattle.std.proofs.Common.{ap, sym, ◌∙◌, ◌≡◌}
+use Rattle.std.proofs.Common.{ap, ◌∙◌, ◌≡◌}
 use Rattle.std.specs.Prelude.{Some, None}
 use Rattle.lp_model.specs.Program.{in_least_form}
 use Rattle.cert_text.specs.declared.cert.Claim.TheVariants.{Within}

@@ -1,4 +1,4 @@
-use Rattle.std.proofs.Common.{◌≡◌, ◌∙◌, sym, ap, true, false}
+use Rattle.std.proofs.Common.{◌∙◌, sym, ap, true, false}
 use Rattle.std.specs.Prelude.{◌&&◌, not, List, ℕ}
 use Rattle.warm_file.proofs.Saying.{says-there, says-missing, says-else, ok-there, ok-then, ok-is}
 use Rattle.lp_model.specs.Names.{is_lawful_name}

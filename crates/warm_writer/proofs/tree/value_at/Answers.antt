@@ -1,4 +1,3 @@
-use Rattle.std.proofs.Common.{arith}
 use Rattle.serde_json.specs.View.{view}
 use Rattle.warm_writer.proofs.TreeLoop.{value-here, due-here}
 use Rattle.warm_writer.proofs.tree.value_at.Goals as goal

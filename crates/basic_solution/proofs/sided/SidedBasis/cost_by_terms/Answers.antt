@@ -1,6 +1,5 @@
-use Rattle.std.proofs.Common.{refl, ◌≡◌, ◌≤◌, ◌∙◌, subst, ap, arith, length, Ok, Err, ℕ}
+use Rattle.std.proofs.Common.{refl, ◌≡◌, ◌≤◌, ◌∙◌, subst, ap, arith, length, Ok, Err}
 use Rattle.row_tableau.specs.Dense.{table_of}
-use Rattle.checked_sum.specs.Steps.{IsCheckedSum}
 use Rattle.basic_solution.specs.Held.{IsSided, relaxation, table, variables}
 use Rattle.basic_solution.specs.RowTotals.{AreFreeFrom}
 use Rattle.basic_solution.proofs.PointLemmas.{cost_answer, cost_refusal}

@@ -1,5 +1,5 @@
-use Rattle.std.proofs.Common.{◌≡◌, ◌<◌, ◌+◌, ◌^◌, ◌∙◌, ℕ, sym, ap, subst, arith, get_or, pos}
-use Rattle.frac128.specs.Rational.{ℚ, int}
+use Rattle.std.proofs.Common.{◌≡◌, ◌<◌, ◌^◌, ◌∙◌, ℕ, sym, ap, subst, arith, get_or}
+use Rattle.frac128.specs.Rational.{ℚ}
 use Rattle.checked_sum.specs.Steps.{AllFit, IsFirstWide, partial}
 use Rattle.basic_solution.specs.Held.{IsSided, table, variables}
 use Rattle.basic_solution.specs.Numbers.{IsFirstWideValue}

@@ -1,4 +1,4 @@
-use Rattle.std.proofs.Common.{◌≡◌, ◌<◌, ◌+◌, ◌∙◌, sym, ap, subst, arith, pos, length, to_z, of_z, w64}
+use Rattle.std.proofs.Common.{◌≡◌, ◌<◌, ◌+◌, ◌∙◌, sym, ap, subst, arith, length, to_z, of_z, w64}
 use mathlib.Core.Path.{subst₂, subst₃}
 use Rattle.frac128.specs.Rational.{int}
 use Rattle.table_entries.specs.WholeSteps.{IsShort}

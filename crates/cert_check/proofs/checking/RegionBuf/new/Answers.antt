@@ -1,4 +1,4 @@
-use Rattle.std.proofs.Common.{◌≡◌, ◌≤◌, ap, subst, length, arith, Ok}
+use Rattle.std.proofs.Common.{◌≤◌, ap, subst, length, arith}
 use Rattle.std.proofs.lemmas.Result.{IfOk-at_ok, IfOk-weaker}
 use Rattle.cert_check.specs.Cuts.{AreCutsFound}
 use Rattle.tight_regions.specs.Tight.{IsTrail, room}

@@ -1,5 +1,4 @@
-use Rattle.std.proofs.Common.{◌∙◌, refl, sym, ap, subst, true, false, Ok, Err}
-use Rattle.lp_model.specs.Program.{Program}
+use Rattle.std.proofs.Common.{◌∙◌, refl, ap, subst, true, false, Ok, Err}
 use Rattle.cover_cuts.specs.Answers.{IsValidAnswer}
 use Rattle.cut_find.specs.Greedy.{cover_of, places_without}
 use Rattle.cut_find.proofs.candidates.RowSide.drop_column.Goals as goal

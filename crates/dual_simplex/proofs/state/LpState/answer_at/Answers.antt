@@ -1,4 +1,4 @@
-use Rattle.std.proofs.Common.{rules, ◌≡◌, Ok, Err, subst}
+use Rattle.std.proofs.Common.{rules, ◌≡◌, Ok, subst}
 use Rattle.dual_simplex.specs.Walks.{IsWalkEnd}
 use Rattle.dual_simplex.specs.declared.walk.Walk.TheVariants.{Optimal, Infeasible, Pivots}
 use Rattle.dual_simplex.proofs.StepLemmas.{end_wide}

@@ -1,4 +1,4 @@
-use Rattle.std.proofs.Common.{◌≡◌, ◌≤◌, ◌<◌, ◌∙◌, ℕ, pos, refl, sym, subst, length, arith}
+use Rattle.std.proofs.Common.{◌≤◌, ◌<◌, ◌∙◌, pos, refl, sym, subst, length, arith}
 use Rattle.std.proofs.lemmas.Bool.{false≢true}
 use Rattle.lp_model.specs.declared.types.Side.TheVariants.{Lo}
 use Rattle.lp_model.specs.declared.types.BoundChange.{BoundChange}

@@ -1,8 +1,6 @@
-use Rattle.std.proofs.Common.{◌<◌, ℕ, refl, subst}
-use Rattle.std.specs.Prelude.{IfSome}
+use Rattle.std.proofs.Common.{refl, subst}
 use Rattle.std.proofs.lemmas.Option.{IfSome_then}
 use Rattle.table_entries.specs.WholeSteps.{IsShortOver}
-use Rattle.row_tableau.specs.Dense.{table_of}
 use Rattle.row_tableau.specs.Layout.{variable_slots}
 use Rattle.row_tableau.proofs.LayoutLemmas.{row_there, place_there, entry_is}
 use Rattle.row_tableau.proofs.tableau.Tableau.whole_denominator.Goals as goal

@@ -1,6 +1,5 @@
-use Rattle.std.proofs.Common.{◌≤◌, ◌≢◌, sym, subst, ◌∙◌, arith}
+use Rattle.std.proofs.Common.{◌≢◌, sym, subst, ◌∙◌, arith}
 use Rattle.std.proofs.lemmas.Bool.{false≢true}
-use Rattle.row_tableau.specs.Dense.{table_of}
 use Rattle.row_tableau.specs.Variables.{numbers}
 use Rattle.row_tableau.specs.private.Answers.{IsFirstLeaving}
 use Rattle.row_tableau.proofs.LeavingLemmas.{none_leaves, one_leaves, other_leaves, lesser_leaves}
