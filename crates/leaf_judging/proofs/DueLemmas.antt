@@ -3,10 +3,12 @@ use Rattle.std.specs.Prelude.{◌≡◌, ◌≢◌, ◌⊎◌, ℕ, ◌<◌, ◌
 use Rattle.std.specs.Option.{option_map, option_or}
 use Rattle.std.proofs.Common.{refl, sym, ap, subst, ◌∙◌, arith, inl, inr, eq-eqb}
 use Rattle.std.proofs.lemmas.Bool.{ne_eqb}
-use Rattle.lp_model.specs.Regions.{Path}
+use Rattle.std.proofs.lemmas.List.Elements.{All-head, All-tail}
+use Rattle.lp_model.specs.Regions.{Path, AreNarrow}
+use Rattle.tight_regions.specs.SameBounds.{SameBounds}
 use Rattle.lp_model.specs.Formulations.{Formulation}
 use Rattle.branch_tree.specs.Tree.{Leaf, Split, left_path, right_path, EachLeaf}
-use Rattle.branch_tree.specs.Plain.{LeafKept, Plain, leaves_with, leaf_below, path_of, data_of}
+use Rattle.branch_tree.specs.Plain.{LeafKept, Plain, leaves_with, leaf_below, data_of}
 use Rattle.branch_tree.specs.declared.node.LeafData.{LeafData}
 use Rattle.branch_tree.proofs.CountLemmas.{same_cases}
 use Rattle.branch_tree.proofs.LeafLemmas.{leaf_below-split, leaf_below-found}
@@ -18,6 +20,7 @@ use Rattle.leaf_totals.specs.Likeness.{IsBackBefore, IsBack}
 use Rattle.spared_leaves.specs.declared.touched.Touched.TheVariants.{OneCost}
 use Rattle.spared_leaves.specs.Touched.{leaves_list}
 use Rattle.leaf_judging.specs.declared.closing.LeafNumber.TheVariants.{Empty}
+use Rattle.leaf_judging.specs.declared.due.DueLeaf.{DueLeaf}
 use Rattle.leaf_judging.specs.declared.entry.LeafEntry.{LeafEntry}
 use Rattle.leaf_judging.specs.declared.former.Former.{Former}
 use Rattle.leaf_judging.specs.declared.numbers.LeafNumbers.{LeafNumbers}
@@ -26,10 +29,11 @@ use Rattle.leaf_judging.specs.Numbers.{kept_entry, PutsEntry, HasKept, AreNumber
 use Rattle.leaf_judging.specs.Former.{former_formulation, IsAlikeFormer, HoldsFormer, AreFormer}
 use Rattle.leaf_judging.specs.private.Entries.{GoesOnFrom}
 use Rattle.leaf_judging.specs.private.Ways.{IsFromCost}
-use Rattle.leaf_judging.specs.private.Walked.{IsDue, IsDueBy, is_due_id, StandsBy, IsStanding, AreBut, IsNoCost, IsFinishedLeaf}
+use Rattle.leaf_judging.specs.private.Walked.{IsDue, IsDueBy, IsDueAt, is_due_id, IsRegionOf, StandsBy, IsStanding, AreBut, IsNoCost, IsFinishedLeaf}
 use Rattle.leaf_judging.proofs.NumberLemmas.{is-other, former-each}
 use Rattle.leaf_judging.proofs.SparedEntry.{back-after, room-after, entry-after}
-use Rattle.leaf_judging.proofs.WalkedLemmas.{stands-same}
+use Rattle.leaf_judging.proofs.SameEntry.{entry-same}
+use Rattle.leaf_judging.proofs.WalkedLemmas.{IsOtherDue, stands-same}
 
 some_same : {A : Type 0} (a b : A) → Some a ≡ Some b → a ≡ b
 some_same a b h = cc
@@ -76,10 +80,10 @@ module _ (P : Path → LeafKept → Type 0) (id : ℕ) where
             (none-each (left_path path j v) left (omega (arith, one, some)), found-each (right_path path j v) right x (omega (arith, one)) there h)
       ]
 
--- its path and its data
-pub found-both : (o : Option (Path × LeafKept)) (path : Path) (kept : LeafData) → option_map (λ (l : Path × LeafKept). l.0) o ≡ Some path → option_map (λ (l : Path × LeafKept). l.1.kept) o ≡ Some kept → (x : Path × LeafKept) × ((o ≡ Some x) × ((x.0 ≡ path) × (x.1.kept ≡ kept)))
-found-both None path kept p d = cc
-found-both (Some x) path kept p d = (x, (refl, (some_same x.0 path p, some_same x.1.kept kept d)))
+-- its data
+pub found-data : (o : Option (Path × LeafKept)) (kept : LeafData) → option_map (λ (l : Path × LeafKept). l.1.kept) o ≡ Some kept → (x : Path × LeafKept) × ((o ≡ Some x) × (x.1.kept ≡ kept))
+found-data None kept d = cc
+found-data (Some x) kept d = (x, (refl, some_same x.1.kept kept d))
 
 -- ---- no more is due
 
@@ -89,51 +93,54 @@ module _ (former : Option Former) (F : Formulation) (numbers : LeafNumbers) wher
   stand-kept none false path l h = h
 
   -- where none can be
-  pub none-due : (due : List ℕ) (t : Plain) → ((kept : LeafData) → ¬ IsDue former F kept) → AreBut former F numbers due t → AreNumbersOf F t numbers
-  none-due due t none but = each-as (IsStanding former F numbers due) (HasKept F numbers) (λ p l h. stand-kept none (is_due_id l.id due) p l h) [] t but
+  pub none-due : (due : List DueLeaf) (t : Plain) → ((kept : LeafData) → ¬ IsDue former F kept) → AreBut former F numbers due t → AreNumbersOf F t numbers
+  none-due due t none but = each-as (IsStanding former F numbers due) (HasKept F numbers) (λ p l h. stand-kept none (is_due_id l.id due) p l h.0) [] t but
 
-  -- where all ids were gone through
+  -- where all of them were gone through
   pub all-done : (t : Plain) → AreBut former F numbers [] t → AreNumbersOf F t numbers
-  all-done t but = but
+  all-done t but = each-as (IsStanding former F numbers []) (HasKept F numbers) (λ p l h. h.0) [] t but
 
-  -- a leaf whose id is due is
-  pub head-due : (id : ℕ) (rest : List ℕ) (t : Plain) → AreBut former F numbers (id ∷ rest) t → EachLeaf (λ p l. l.id ≡ id → IsDue former F l.kept) [] t
-  head-due id rest t but =
-      each-as (IsStanding former F numbers (id ∷ rest)) (λ p l. l.id ≡ id → IsDue former F l.kept)
-      (λ p l h same. subst (λ b. StandsBy b former F numbers p l) (ap (λ b. b || is_due_id l.id rest) (eq-eqb id l.id (sym same))) h) [] t but
+  -- a leaf that was put down is due
+  pub head-due : (d : DueLeaf) (rest : List DueLeaf) (t : Plain) → AreBut former F numbers (d ∷ rest) t → EachLeaf (IsDueAt former F d) [] t
+  head-due d rest t but =
+      each-as (IsStanding former F numbers (d ∷ rest)) (IsDueAt former F d)
+      (λ p l h same. (subst (λ b. StandsBy b former F numbers p l) (ap (λ b. b || is_due_id l.id rest) (eq-eqb d.id l.id (sym same))) h.0, All-head (IsRegionOf p l.id) d rest h.1 same)) [] t but
 
 pub no-cost : (o : Option Touched) (former : Former) (F : Formulation) (kept : LeafData) → IsNoCost o → ¬ IsDueBy o former F kept
 no-cost None former F kept none due = due
 no-cost (Some t) former F kept none (p, is) = subst (λ (u : Touched). IsNoCost (Some u)) is.cost none
 
--- ---- one id
+-- ---- one of them
 
-module _ (former : Option Former) (F : Formulation) (t : Plain) (id : ℕ) (old new : LeafNumbers) where
-  rest-same : (rest : List ℕ) (path : Path) (l : LeafKept) → l.id ≢ id → is_due_id l.id (id ∷ rest) ≡ is_due_id l.id rest
-  rest-same rest path l ne = ap (λ b. b || is_due_id l.id rest) (ne_eqb id l.id (λ e. ne (sym e)))
+module _ (former : Option Former) (F : Formulation) (t : Plain) (d : DueLeaf) (old new : LeafNumbers) where
+  rest-other : (rest : List DueLeaf) (l : LeafKept) → l.id ≢ d.id → IsOtherDue l.id (d ∷ rest) rest
+  rest-other rest l ne = record {
+    is_in = sym (ap (λ b. b || is_due_id l.id rest) (ne_eqb d.id l.id (λ e. ne (sym e))));
+    regions = λ path all. All-tail (IsRegionOf path l.id) d rest all;
+  }
 
   -- no leaf has it
-  pub finish-none : leaves_with id t ≡ 0 → new ≡ old → IsFinishedLeaf former F t id old new
+  pub finish-none : leaves_with d.id t ≡ 0 → new ≡ old → IsFinishedLeaf former F t d old new
   finish-none none same rest but =
-      each-as (λ p l. IsStanding former F old (id ∷ rest) p l × (l.id ≡ id → ⊥)) (IsStanding former F new rest)
-      (λ p l h. stands-same former F old new (id ∷ rest) rest p l (ap (λ (n : LeafNumbers). kept_entry n l.id) same) (sym (rest-same rest p l h.1)) h.0) [] t
-      (each-two (IsStanding former F old (id ∷ rest)) (λ p l. l.id ≡ id → ⊥) [] t but (none-each (λ p l. ⊥) id [] t none))
+      each-as (λ p l. IsStanding former F old (d ∷ rest) p l × (l.id ≡ d.id → ⊥)) (IsStanding former F new rest)
+      (λ p l h. stands-same former F old new (d ∷ rest) rest p l (ap (λ (n : LeafNumbers). kept_entry n l.id) same) (rest-other rest l h.1) h.0) [] t
+      (each-two (IsStanding former F old (d ∷ rest)) (λ p l. l.id ≡ d.id → ⊥) [] t but (none-each (λ p l. ⊥) d.id [] t none))
 
-  module _ (e : LeafEntry) (puts : PutsEntry old id e new) (each : EachLeaf (λ p l. l.id ≡ id → IsLeafEntry F p l.kept e) [] t) where
-    one-stands : (rest : List ℕ) (p : Path) (l : LeafKept) → IsStanding former F old (id ∷ rest) p l → (l.id ≡ id → IsLeafEntry F p l.kept e) → IsStanding former F new rest p l
-    one-stands rest p l h own = elim (same_cases id l.id) [
-      | inl k ↦ by (is_due_id l.id rest) refl (sym k.1)
-      | inr k ↦ stands-same former F old new (id ∷ rest) rest p l (puts.1 l.id (λ s. k.1 (sym s))) (sym (rest-same rest p l (λ s. k.1 (sym s)))) h
+  module _ (e : LeafEntry) (puts : PutsEntry old d.id e new) (each : EachLeaf (λ p l. l.id ≡ d.id → IsLeafEntry F p l.kept e) [] t) where
+    one-stands : (rest : List DueLeaf) (p : Path) (l : LeafKept) → IsStanding former F old (d ∷ rest) p l → (l.id ≡ d.id → IsLeafEntry F p l.kept e) → IsStanding former F new rest p l
+    one-stands rest p l h own = elim (same_cases d.id l.id) [
+      | inl k ↦ (by (is_due_id l.id rest) refl (sym k.1), All-tail (IsRegionOf p l.id) d rest h.1)
+      | inr k ↦ stands-same former F old new (d ∷ rest) rest p l (puts.1 l.id (λ s. k.1 (sym s))) (rest-other rest l (λ s. k.1 (sym s))) h
     ]
       where
-        by : (b : Bool) → is_due_id l.id rest ≡ b → l.id ≡ id → IsStanding former F new rest p l
-        by true there same = subst (λ c. StandsBy c former F new p l) (sym there) (subst (λ c. StandsBy c former F old p l) (ap (λ c. c || is_due_id l.id rest) (eq-eqb id l.id (sym same))) h)
+        by : (b : Bool) → is_due_id l.id rest ≡ b → l.id ≡ d.id → StandsBy (is_due_id l.id rest) former F new p l
+        by true there same = subst (λ c. StandsBy c former F new p l) (sym there) (subst (λ c. StandsBy c former F old p l) (ap (λ c. c || is_due_id l.id rest) (eq-eqb d.id l.id (sym same))) h.0)
         by false past same = subst (λ c. StandsBy c former F new p l) (sym past) (e, (ap (kept_entry new) same ∙ puts.0, own same))
 
-    pub finish-put : IsFinishedLeaf former F t id old new
+    pub finish-put : IsFinishedLeaf former F t d old new
     finish-put rest but =
-        each-as (λ p l. IsStanding former F old (id ∷ rest) p l × (l.id ≡ id → IsLeafEntry F p l.kept e)) (IsStanding former F new rest) (λ p l h. one-stands rest p l h.0 h.1) [] t
-        (each-two (IsStanding former F old (id ∷ rest)) (λ p l. l.id ≡ id → IsLeafEntry F p l.kept e) [] t but each)
+        each-as (λ p l. IsStanding former F old (d ∷ rest) p l × (l.id ≡ d.id → IsLeafEntry F p l.kept e)) (IsStanding former F new rest) (λ p l h. one-stands rest p l h.0 h.1) [] t
+        (each-two (IsStanding former F old (d ∷ rest)) (λ p l. l.id ≡ d.id → IsLeafEntry F p l.kept e) [] t but each)
 
 -- ---- the leaf that is found
 
@@ -150,34 +157,43 @@ pub record IsFound (former : Former) (F : Formulation) (col : ℕ) (path : Path)
   pub within : col < length former.model.now.cols
   pub count : length former.model.now.cols ≡ length F.model.cols
 
-module _ (former : Former) (F : Formulation) (t : Plain) (id col : ℕ) (touched : former.touched ≡ Some (OneCost (record { 0 = col }))) (held : AreFormer (Some former) F t) (due : EachLeaf (λ p l. l.id ≡ id → IsDue (Some former) F l.kept) [] t)
-    (path : Path) (kept : LeafData) (region_is : path_of id t ≡ Some path) (data_is : data_of id t ≡ Some kept) where
-  at : (x : Path × LeafKept) × ((leaf_below id [] t ≡ Some x) × ((x.0 ≡ path) × (x.1.kept ≡ kept)))
-  at = found-both (leaf_below id [] t) path kept region_is data_is
+-- the changes beside its id leave the bounds of its path, so what its path has they have
+module _ (former : Former) (F : Formulation) (t : Plain) (d : DueLeaf) (col : ℕ) (touched : former.touched ≡ Some (OneCost (record { 0 = col }))) (held : AreFormer (Some former) F t) (due : EachLeaf (IsDueAt (Some former) F d) [] t)
+    (kept : LeafData) (data_is : data_of d.id t ≡ Some kept) where
+  at : (x : Path × LeafKept) × ((leaf_below d.id [] t ≡ Some x) × (x.1.kept ≡ kept))
+  at = found-data (leaf_below d.id [] t) kept data_is
 
-  own : HoldsFormer (Some former) F at.0.0 at.0.1 × (at.0.1.id ≡ id)
-  own = each-found (HoldsFormer (Some former) F) id [] t at.0 (former-each (Some former) F t held) at.1.0
+  own : HoldsFormer (Some former) F at.0.0 at.0.1 × (at.0.1.id ≡ d.id)
+  own = each-found (HoldsFormer (Some former) F) d.id [] t at.0 (former-each (Some former) F t held) at.1.0
 
-  is_due : IsDue (Some former) F at.0.1.kept
-  is_due = (each-found (λ p l. l.id ≡ id → IsDue (Some former) F l.kept) id [] t at.0 due at.1.0).0 own.1
+  is_due : IsDue (Some former) F at.0.1.kept × (AreNarrow d.region × SameBounds d.region at.0.0)
+  is_due = (each-found (IsDueAt (Some former) F d) d.id [] t at.0 due at.1.0).0 own.1
+
+  pub found-narrow : AreNarrow d.region
+  found-narrow = is_due.1.0
 
   had : IsAlikeFormer (OneCost (record { 0 = col })) former F × HasKept (former_formulation former) former.numbers.now at.0.0 at.0.1
   had = subst (λ o. IfSome o (λ u. IsAlikeFormer u former F × HasKept (former_formulation former) former.numbers.now at.0.0 at.0.1)) touched own.0
 
   cost : (p : ℕ) × IsFromCost (OneCost (record { 0 = col })) former F at.0.1.kept p
-  cost = subst (λ o. IsDueBy o former F at.0.1.kept) touched is_due
+  cost = subst (λ o. IsDueBy o former F at.0.1.kept) touched is_due.0
 
-  pub found-entry : (e : LeafEntry) × ((kept_entry former.numbers.now id ≡ Some e) × IsFound former F col path kept e)
+  back : SameBounds at.0.0 d.region
+  back = record { low = sym is_due.1.1.low; high = sym is_due.1.1.high }
+
+  had-kept : IsLeafEntry (former_formulation former) at.0.0 kept had.1.0
+  had-kept = subst (λ k. IsLeafEntry (former_formulation former) at.0.0 k had.1.0) at.1.1 had.1.1.1
+
+  pub found-entry : (e : LeafEntry) × ((kept_entry former.numbers.now d.id ≡ Some e) × IsFound former F col d.region kept e)
   found-entry =
       let same : col ≡ cost.0 = ap cost_col cost.1.cost in
-      let path_is = at.1.1.0 in
-      let kept_is = at.1.1.1 in
+      let kept_is = at.1.1 in
       let within = cost.1.within in (
         had.1.0,
         (
           subst (λ i. kept_entry former.numbers.now i ≡ Some had.1.0) own.1 had.1.1.0,
           record {
-            entry = subst (λ P. P) (λ i. IsLeafEntry (former_formulation former) (path_is i) (kept_is i) had.1.0) had.1.1.1;
+            entry = entry-same (former_formulation former) at.0.0 d.region back kept.mult kept.farkas had.1.0 had-kept;
             alike = had.0;
             mult = subst (λ (k : LeafData). leaves_list (OneCost (record { 0 = col })) former.pool.now F.cuts k.mult ≡ true) kept_is cost.1.mult;
             farkas = subst (λ (k : LeafData). leaves_list (OneCost (record { 0 = col })) former.pool.now F.cuts k.farkas ≡ true) kept_is cost.1.farkas;
@@ -188,16 +204,17 @@ module _ (former : Former) (F : Formulation) (t : Plain) (id col : ℕ) (touched
       )
 
   -- what was kept under the id
-  pub found-kept : (e : LeafEntry) → Some e ≡ kept_entry former.numbers.now id → IsFound former F col path kept e
-  found-kept e is = subst (IsFound former F col path kept) (some_same found-entry.0 e (sym found-entry.1.0 ∙ sym is)) found-entry.1.1
+  pub found-kept : (e : LeafEntry) → Some e ≡ kept_entry former.numbers.now d.id → IsFound former F col d.region kept e
+  found-kept e is = subst (IsFound former F col d.region kept) (some_same found-entry.0 e (sym found-entry.1.0 ∙ sym is)) found-entry.1.1
 
-  pub found-some : None ≡ kept_entry former.numbers.now id → ⊥
+  pub found-some : None ≡ kept_entry former.numbers.now d.id → ⊥
   found-some none = let f = none ∙ found-entry.1.0 in cc
 
   -- what is so of it is so of each leaf with the id
-  pub found-all : (e : LeafEntry) → leaves_with id t ≤ 1 → IsLeafEntry F path kept e → EachLeaf (λ p l. l.id ≡ id → IsLeafEntry F p l.kept e) [] t
+  pub found-all : (e : LeafEntry) → leaves_with d.id t ≤ 1 → IsLeafEntry F d.region kept e → EachLeaf (λ p l. l.id ≡ d.id → IsLeafEntry F p l.kept e) [] t
   found-all e one is =
-      found-each (λ p l. IsLeafEntry F p l.kept e) id [] t at.0 one at.1.0 (subst (λ P. P) (λ i. IsLeafEntry F (sym at.1.1.0 i) (sym at.1.1.1 i) e) is)
+      found-each (λ p l. IsLeafEntry F p l.kept e) d.id [] t at.0 one at.1.0
+      (subst (λ k. IsLeafEntry F at.0.0 k e) (sym at.1.1) (entry-same F d.region at.0.0 is_due.1.1 kept.mult kept.farkas e is))
 
 module _ (former : Former) (F : Formulation) (col : ℕ) (path : Path) (kept : LeafData) (e : LeafEntry) (h : IsFound former F col path kept e) where
   pub found-back : e.number ≢ Empty → (t : LeafTotals) → IsBackBefore col e.lag t → IsBack col (list_question F path kept.mult true) t

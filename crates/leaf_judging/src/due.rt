@@ -1,21 +1,29 @@
 // Leaves that are due after another cost of a column: what is kept of them is gone on with from the last total before that column.
 ghost use Rattle.std.specs.Prelude.{◌≡◌, ◌≤◌, ◌<◌, ◌+◌, ◌-◌, ◌∷◌, [], length, Some, OnOk, MatchOption};
 ghost use Rattle.lp_model.specs.Formulations.{formulation};
-ghost use Rattle.branch_tree.specs.Tree.{HasNarrowSplits, EachLeaf};
+ghost use Rattle.branch_tree.specs.Tree.{EachLeaf};
 ghost use Rattle.spared_leaves.specs.declared.touched.Touched.TheVariants.{OneCost};
 ghost use Rattle.leaf_judging.specs.Numbers.{AreNumbersOf};
 ghost use Rattle.leaf_judging.specs.Former.{AreFormer};
-ghost use Rattle.leaf_judging.specs.private.Walked.{IsDue, due_steps, dues, AreBut, IsNoCost, IsFinishedLeaf};
+ghost use Rattle.leaf_judging.specs.private.Walked.{IsDueAt, due_steps, dues, AreBut, IsNoCost, IsFinishedLeaf};
 
 use crate::former::Former;
 use crate::numbers::LeafNumbers;
 use branch_tree::Tree;
 use cover_cuts::CutPool;
 use leaf_dual::Steps;
-use lp_model::Model;
+use lp_model::{Model, Region};
 use spared_leaves::Touched;
 use std::alloc::{AllocError, Global};
 use std::sync::ledger::Ledger;
+
+/// A leaf that is due: its id, and its region as the walk lent it, by its tightest bound changes. So no leaf's path is gone up to the root,
+/// which would take as long as the tree is deep.
+#[derive(Drop)]
+pub(crate) struct DueLeaf {
+    pub(crate) id: u64,
+    pub(crate) region: Region,
+}
 
 /// The place of the column whose cost was touched, if no more was.
 fn cost_place(touched: &Option<Touched>) -> Option<usize>
@@ -33,7 +41,7 @@ fn cost_place(touched: &Option<Touched>) -> Option<usize>
     }
 }
 
-/// Goes on with what was kept of the leaf with the id, if there is one, and keeps that.
+/// Goes on with what was kept of a leaf that is due, if the tree has it, and keeps that.
 fn finish_leaf<L: Ledger>(
     alloc: Global,
     model: &Model,
@@ -41,38 +49,29 @@ fn finish_leaf<L: Ledger>(
     former: &Former<'_>,
     col: usize,
     tree: &Tree,
-    id: u64,
+    leaf: &DueLeaf,
     numbers: &mut LeafNumbers,
     steps: &mut Steps<L>,
 ) -> Result<(), AllocError>
-    requires narrow { HasNarrowSplits tree.now.root }
     requires former { AreFormer (Some former.now) (formulation model.now pool.now) tree.now.root }
     requires touched { former.now.touched ≡ Some (OneCost (record { 0 = col })) }
-    requires due { EachLeaf (λ p l. l.id ≡ id → IsDue (Some former.now) (formulation model.now pool.now) l.kept) [] tree.now.root }
-    ensures finishes { OnOk result (IsFinishedLeaf (Some former.now) (formulation model.now pool.now) tree.now.root id numbers.old numbers.new) }
+    requires due { EachLeaf (IsDueAt (Some former.now) (formulation model.now pool.now) leaf.now) [] tree.now.root }
+    ensures finishes { OnOk result (IsFinishedLeaf (Some former.now) (formulation model.now pool.now) tree.now.root leaf.now numbers.old numbers.new) }
     ensures rises { steps.old ≤ steps.new }
     ensures steps { steps.new ≤ steps.old + due_steps (Some former.now) (formulation model.now pool.now) }
 {
-    let Some(kept) = tree.leaf(id) else {
+    let Some(kept) = tree.leaf(leaf.id) else {
         return Ok(());
     };
-    let Ok(found) = tree.region_of(id) else {
-        return Err(AllocError);
-    };
-    let Some(region) = found else { unreachable!() };
-    let Some(before) = former.numbers.entry(id) else {
+    let Some(before) = former.numbers.entry(leaf.id) else {
         unreachable!()
     };
     match before.copy(alloc) {
         Ok(mut entry) => {
-            entry.go_on_from(col, model, pool, region.as_slice(), &kept.mult, steps);
-            drop(region);
-            numbers.put(id, entry)
+            entry.go_on_from(col, model, pool, leaf.region.as_slice(), &kept.mult, steps);
+            numbers.put(leaf.id, entry)
         }
-        Err(error) => {
-            drop(region);
-            Err(error)
-        }
+        Err(error) => Err(error),
     }
 }
 
@@ -83,11 +82,10 @@ pub(crate) fn finish<L: Ledger>(
     pool: &CutPool,
     former: &Option<Former<'_>>,
     tree: &Tree,
-    due: &[u64],
+    due: &[DueLeaf],
     numbers: &mut LeafNumbers,
     steps: &mut Steps<L>,
 ) -> Result<(), AllocError>
-    requires narrow { HasNarrowSplits tree.now.root }
     requires former { AreFormer former.now (formulation model.now pool.now) tree.now.root }
     requires but { AreBut former.now (formulation model.now pool.now) numbers.old due.now tree.now.root }
     ensures numbers { OnOk result (AreNumbersOf (formulation model.now pool.now) tree.now.root numbers.new) }
@@ -98,8 +96,8 @@ pub(crate) fn finish<L: Ledger>(
     let Some(col) = cost_place(&before.touched) else {
         return Ok(());
     };
-    for id in due {
-        finish_leaf(alloc, model, pool, before, col, tree, *id, numbers, steps)?;
+    for leaf in due {
+        finish_leaf(alloc, model, pool, before, col, tree, leaf, numbers, steps)?;
     }
     Ok(())
 }

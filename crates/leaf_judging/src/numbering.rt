@@ -13,23 +13,23 @@ ghost use Rattle.leaf_judging.specs.declared.former.Way.TheVariants.{FromSide};
 ghost use Rattle.leaf_judging.specs.private.Ways.{IsWayAfter};
 ghost use Rattle.leaf_judging.specs.private.Walked.{former_kept, IsWayAt, IsDue, due_steps, dues, AreBut};
 
-use crate::due::finish;
+use crate::due::{DueLeaf, finish};
 use crate::entry::{LeafEntry, entry_by};
 use crate::former::{Former, Way};
 use crate::numbers::LeafNumbers;
 use branch_tree::{LeafData, LeafVisitor, Tree};
 use cover_cuts::CutPool;
 use leaf_dual::Steps;
-use lp_model::{BoundChange, Model};
+use lp_model::{BoundChange, List, Model};
 use std::alloc::{AllocError, Global};
 use std::sync::ledger::Ledger;
 
-/// Entries of leaves, and the ids of those that are due: what they had is gone on with after the walk, since a walk does not know of
+/// Entries of leaves, and those leaves that are due: what they had is gone on with after the walk, since a walk does not know of
 /// a leaf that the tree has it.
 #[derive(Drop)]
 pub(crate) struct Numbered {
     pub(crate) numbers: LeafNumbers,
-    pub(crate) due: Vec<u64>,
+    pub(crate) due: Vec<DueLeaf>,
 }
 
 /// Entries of the leaves of a model with its cuts, put down one by one, with those from before an edit, if there are any. It owns no
@@ -91,37 +91,24 @@ fn moved_entry<L: Ledger>(
 {
     let _lawful = model.rows();
     let _few = pool.rows();
-    match former.numbers.entry(id) {
-        None => entry_by(
-            alloc,
-            model,
-            pool,
-            region,
-            &kept.mult,
-            &kept.farkas,
-            true,
-            steps,
-        ),
-        Some(before) => {
-            let Ok(mut entry) = before.copy(alloc) else {
-                return Err(AllocError);
-            };
-            if entry.move_side(row, former.model, model, &kept.mult, steps) {
-                return Ok(entry);
-            }
-            drop(entry);
-            entry_by(
-                alloc,
-                model,
-                pool,
-                region,
-                &kept.mult,
-                &kept.farkas,
-                true,
-                steps,
-            )
+    if let Some(before) = former.numbers.entry(id) {
+        let Ok(mut entry) = before.copy(alloc) else {
+            return Err(AllocError);
+        };
+        if entry.move_side(row, former.model, model, &kept.mult, steps) {
+            return Ok(entry);
         }
     }
+    entry_by(
+        alloc,
+        model,
+        pool,
+        region,
+        &kept.mult,
+        &kept.farkas,
+        true,
+        steps,
+    )
 }
 
 /// The entry of a leaf, copied or moved from before or computed from nothing; `None` where it is due.
@@ -189,7 +176,7 @@ fn entry_at<L: Ledger>(
 impl<L: Ledger> Numbering<'_, L> {
     ghost use Rattle.leaf_judging.specs.private.Walked.{NumbersLeaf};
 
-    /// Puts down a leaf's entry, or its id where that is due.
+    /// Puts down a leaf's entry, or its id and region where that is due.
     fn number_leaf(
         &mut self,
         id: u64,
@@ -211,7 +198,10 @@ impl<L: Ledger> Numbering<'_, L> {
         ) {
             Ok(Some(entry)) => self.out.numbers.put(id, entry),
             Ok(None) => {
-                self.out.due.push(id)?;
+                let Ok(region) = List::from_slice(self.alloc, region) else {
+                    return Err(AllocError);
+                };
+                self.out.due.push(DueLeaf { id, region })?;
                 Ok(())
             }
             Err(error) => Err(error),
@@ -234,7 +224,7 @@ impl<L: Ledger> LeafVisitor for Numbering<'_, L> {
     }
 }
 
-/// Puts down the entry of each leaf of a tree that isn't due, and the ids of those that are.
+/// Puts down the entry of each leaf of a tree that isn't due, and the ids and regions of those that are.
 fn walk_tree<L: Ledger>(
     alloc: Global,
     model: &Model,

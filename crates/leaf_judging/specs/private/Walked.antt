@@ -1,8 +1,9 @@
 -- What contracts of private functions alone cite, beside specs/Former: what a walk over leaves makes of their entries, and which of
 -- them are due after it.
-use Rattle.std.specs.Prelude.{◌≡◌, ◌⊎◌, ◌≤◌, ◌+◌, ℕ, Bool, true, false, nat_eq, ◌||◌, List, [], ◌∷◌, ◌++◌, Option, Some, None}
-use Rattle.lp_model.specs.Regions.{Path}
+use Rattle.std.specs.Prelude.{◌≡◌, ◌⊎◌, ◌≤◌, ◌+◌, ℕ, Bool, true, false, nat_eq, ◌||◌, List, [], ◌∷◌, ◌++◌, All, Option, Some, None}
+use Rattle.lp_model.specs.Regions.{Path, AreNarrow}
 use Rattle.lp_model.specs.Formulations.{Formulation, formulation}
+use Rattle.tight_regions.specs.SameBounds.{SameBounds}
 use Rattle.branch_tree.specs.Tree.{EachLeaf}
 use Rattle.branch_tree.specs.Plain.{LeafKept, Plain}
 use Rattle.branch_tree.specs.declared.node.LeafData.{LeafData}
@@ -10,6 +11,7 @@ use Rattle.branch_tree.specs.declared.node.RegionLeaf.{RegionLeaf}
 use Rattle.spared_leaves.specs.declared.touched.Touched.{Touched}
 use Rattle.spared_leaves.specs.declared.touched.Touched.TheVariants.{Nothing, OneRow, RowSides, OneCost, OneColumn}
 use Rattle.leaf_judging.specs.declared.entry.LeafEntry.{LeafEntry}
+use Rattle.leaf_judging.specs.declared.due.DueLeaf.{DueLeaf}
 use Rattle.leaf_judging.specs.declared.former.Former.{Former}
 use Rattle.leaf_judging.specs.declared.former.Way.{Way}
 use Rattle.leaf_judging.specs.declared.former.Way.TheVariants.{Anew}
@@ -40,24 +42,28 @@ abbrev pub due_steps : Option Former → Formulation → ℕ
 due_steps None F = 0
 due_steps (Some former) F = due_steps_by former.touched F
 
--- for so many ids
-abbrev pub dues : ℕ → List ℕ → ℕ
+-- for so many leaves
+abbrev pub dues : ℕ → List DueLeaf → ℕ
 dues steps [] = 0
-dues steps (id ∷ ids) = steps + dues steps ids
+dues steps (d ∷ ds) = steps + dues steps ds
 
-abbrev pub is_due_id : ℕ → List ℕ → Bool
+abbrev pub is_due_id : ℕ → List DueLeaf → Bool
 is_due_id id [] = false
-is_due_id id (other ∷ ids) = nat_eq other id || is_due_id id ids
+is_due_id id (d ∷ ds) = nat_eq d.id id || is_due_id id ds
+
+-- of the leaf that is put down the bounds of the path are those of the changes beside its id
+abbrev pub IsRegionOf : Path → ℕ → DueLeaf → Type 0
+IsRegionOf path id d = id ≡ d.id → AreNarrow d.region × SameBounds d.region path
 
 -- the leaf is due where its id is among those that are, and else its entry is kept
 abbrev pub StandsBy : Bool → Option Former → Formulation → LeafNumbers → Path → LeafKept → Type 0
 StandsBy true former F numbers path l = IsDue former F l.kept
 StandsBy false former F numbers path l = HasKept F numbers path l
 
-abbrev pub IsStanding : Option Former → Formulation → LeafNumbers → List ℕ → Path → LeafKept → Type 0
-IsStanding former F numbers due path l = StandsBy (is_due_id l.id due) former F numbers path l
+abbrev pub IsStanding : Option Former → Formulation → LeafNumbers → List DueLeaf → Path → LeafKept → Type 0
+IsStanding former F numbers due path l = StandsBy (is_due_id l.id due) former F numbers path l × All (IsRegionOf path l.id) due
 
-abbrev pub AreBut : Option Former → Formulation → LeafNumbers → List ℕ → Plain → Type 0
+abbrev pub AreBut : Option Former → Formulation → LeafNumbers → List DueLeaf → Plain → Type 0
 AreBut former F numbers due t = EachLeaf (IsStanding former F numbers due) [] t
 
 -- ---- one leaf of a walk
@@ -82,11 +88,15 @@ module _ {L : Type 0} where
     pub due : new.out.now.due.items ≡ old.out.now.due.items
     pub takes : Holds old l → new.steps.now ≤ old.steps.now + former_leaf_steps old.former.now (formulation old.model.now old.pool.now) l.kept
 
-  -- it is left, and its id put down
+  -- it is left, and its id and region are put down
   pub record LeavesLeaf (old : Numbering L) (l : RegionLeaf) (new : Numbering L) : Type 0 where
+    pub leaf : DueLeaf
+    pub id : leaf.id ≡ l.id
+    pub narrow : AreNarrow leaf.region
+    pub bounds : SameBounds leaf.region l.region
     pub is_due : IsDue old.former.now (formulation old.model.now old.pool.now) l.kept
     pub numbers : new.out.now.numbers ≡ old.out.now.numbers
-    pub due : new.out.now.due.items ≡ old.out.now.due.items ++ l.id ∷ []
+    pub due : new.out.now.due.items ≡ old.out.now.due.items ++ leaf ∷ []
     pub takes : new.steps.now ≡ old.steps.now
 
   pub record NumbersLeaf (old : Numbering L) (l : RegionLeaf) (new : Numbering L) : Type 0 where
@@ -108,6 +118,10 @@ IsNoCost (Some (RowSides row)) = Unit {0}
 IsNoCost (Some (OneCost col)) = ⊥
 IsNoCost (Some (OneColumn col)) = Unit {0}
 
--- of the leaf with the id, if there is one, the entry is kept: it is due no more
-abbrev pub IsFinishedLeaf : Option Former → Formulation → Plain → ℕ → LeafNumbers → LeafNumbers → Type 0
-IsFinishedLeaf former F t id old new = (rest : List ℕ) → AreBut former F old (id ∷ rest) t → AreBut former F new rest t
+-- the leaf of the tree that was put down so is due
+abbrev pub IsDueAt : Option Former → Formulation → DueLeaf → Path → LeafKept → Type 0
+IsDueAt former F d path l = l.id ≡ d.id → IsDue former F l.kept × (AreNarrow d.region × SameBounds d.region path)
+
+-- of that leaf, if there is one, the entry is kept: it is due no more
+abbrev pub IsFinishedLeaf : Option Former → Formulation → Plain → DueLeaf → LeafNumbers → LeafNumbers → Type 0
+IsFinishedLeaf former F t d old new = (rest : List DueLeaf) → AreBut former F old (d ∷ rest) t → AreBut former F new rest t

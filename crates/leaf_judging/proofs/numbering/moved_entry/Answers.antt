@@ -1,11 +1,12 @@
 use Rattle.std.specs.Prelude.{Result, Ok, Err, IfOk}
-use Rattle.std.proofs.Common.{◌≤◌, ◌+◌, sym, subst, arith, length}
+use Rattle.std.proofs.Common.{◌≡◌, ◌≤◌, ◌+◌, ◌∙◌, sym, subst, arith, length}
 use Rattle.lp_model.specs.Formulations.{Formulation, formulation}
 use Rattle.leaf_judging.specs.declared.entry.LeafEntry.{LeafEntry}
 use Rattle.leaf_judging.specs.private.Entries.{MovesSide}
 use Rattle.leaf_judging.proofs.SameEntry.{entry-same}
 use Rattle.leaf_judging.proofs.WayLemmas.{few-terms, moved-row, moved-steps, moved-way}
 use Rattle.leaf_judging.proofs.numbering.moved_entry.Goals as goal
+use Rattle.leaf_judging.proofs.numbering.moved_entry.Goals.{in-Some+in-Ok+else-move_side+in-Some-1, in-Some+in-Ok+else-move_side+in-None-1, in_default}
 
 if_ok : {A E : Type 0} {P Q : A → Type 0} (r : Result A E) → ((a : A) → P a → Q a) → IfOk r P → IfOk r Q
 if_ok (Ok a) f h = f a h
@@ -31,23 +32,18 @@ returns-then-move_side-clause-entry g c = λ path same held.
     let taken : c.move_side.new.steps ≤ c.args.steps.now + (length old.lag.totals.kept + 1) = subst (λ (e : LeafEntry). c.move_side.new.steps ≤ c.args.steps.now + (length e.lag.totals.kept + 1)) c.in-Ok.ensures c.move_side.ensures.steps in
     (moved.0, omega (arith, most, taken))
 
-pub returns-in-None-clause-entry : goal.returns-in-None-clause-entry
-returns-in-None-clause-entry g c =
+pub returns-clause-entry : goal.returns-clause-entry
+returns-clause-entry g c =
     let F : Formulation = formulation c.args.model.now c.args.pool.now in
     let kept = c.args.kept.now in
-    if_ok c.entry_by.result (λ e is path same held. (
-      entry-same F c.args.region.now path same kept.mult kept.farkas e is,
-      subst (λ n. c.entry_by.new.steps ≤ c.args.steps.now + n) (sym (moved-steps F c.args.id c.args.region.now path same kept c.args.former.now c.args.row c.requires.way)) c.entry_by.ensures.steps,
-    )) c.entry_by.ensures.entry
-
-pub returns-else-move_side-clause-entry : goal.returns-else-move_side-clause-entry
-returns-else-move_side-clause-entry g c =
-    let F : Formulation = formulation c.args.model.now c.args.pool.now in
-    let kept = c.args.kept.now in
-    let none = c.move_side.ensures.none c.if-move_side.false in
-    let taken = c.entry_by-in-Some.ensures.steps in
-    if_ok c.entry_by-in-Some.result (λ e is path same held.
+    let none : c.match-entry.steps ≡ c.args.steps.now = elim c.match-entry.branch [
+      | in-Some+in-Ok+else-move_side+in-Some-1 w ↦ w.steps-is ∙ w.move_side.ensures.none w.if-move_side.false
+      | in-Some+in-Ok+else-move_side+in-None-1 w ↦ w.steps-is ∙ w.move_side.ensures.none w.if-move_side.false
+      | in_default w ↦ w.steps-is
+    ] in
+    let taken = c.entry_by.ensures.steps in
+    if_ok c.entry_by.result (λ e is path same held.
     let all = moved-steps F c.args.id c.args.region.now path same kept c.args.former.now c.args.row c.requires.way in (
       entry-same F c.args.region.now path same kept.mult kept.farkas e is,
       omega (arith, all, none, taken),
-    )) c.entry_by-in-Some.ensures.entry
+    )) c.entry_by.ensures.entry
